@@ -1,0 +1,3 @@
+-- What the contracts of `alu` cite.
+pub mod Flags
+pub mod Results

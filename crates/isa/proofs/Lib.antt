@@ -1,0 +1,2 @@
+-- Laws of `isa`'s definitions that its own proofs and those of other crates cite.
+pub mod Table

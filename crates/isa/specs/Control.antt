@@ -1,0 +1,53 @@
+-- Document 01, 'Instruction table' and 'Datapath cycles': when and where jumps and calls go, and the register that RB takes.
+use Prim.Native.Nat.{ℕ}
+use mathlib.Core.Bool.{Bool, true, false, cond}
+use Rattle.words.specs.Arithmetic.{sum}
+use Rattle.isa.specs.Fields.{fieldT, fieldB, d10, d12}
+use Rattle.isa.specs.declared.Flags.{Flags}
+use Rattle.isa.specs.declared.Condition.{Condition}
+use Rattle.isa.specs.declared.Condition.the-variants.{Always, Negative, Zero, Carry, Overflow}
+use Rattle.isa.specs.declared.Target.{Target}
+use Rattle.isa.specs.declared.Target.the-variants.{Relative, Absolute, Displaced}
+use Rattle.isa.specs.declared.Kind.{Kind}
+use Rattle.isa.specs.declared.Kind.the-variants.{Undefined, Binary, Constant, Ld, St, Unary, Nop, Halt, Ldsp, Rts, Pop, Push, Jump, Call}
+
+-- '(always, or on N, Z, C, V)'
+abbrev pub taken : Condition → Flags → Bool
+taken Always flags = true
+taken Negative flags = flags .n
+taken Zero flags = flags .z
+taken Carry flags = flags .c
+taken Overflow flags = flags .v
+
+-- 'to PC+Ra', 'to Ra', 'to PC+d10' or 'to PC+d12'; PC 'is already one past the instruction'
+abbrev pub address : Target → ℕ → ℕ → ℕ → ℕ
+address Relative pc register displacement = sum pc register
+address Absolute pc register displacement = register
+address Displaced pc register displacement = sum pc displacement
+
+abbrev pub jumpTarget : Target → ℕ → ℕ → ℕ → ℕ
+jumpTarget target w pc register = address target pc register (d10 w)
+
+abbrev pub callTarget : Target → ℕ → ℕ → ℕ → ℕ
+callTarget target w pc register = address target pc register (d12 w)
+
+-- 'RB takes Rt for ADDI, SUBI, LDL, LDH, PUSH, else Rb'
+abbrev pub latchesTarget : Kind → Bool
+latchesTarget Undefined = false
+latchesTarget (Binary op) = false
+latchesTarget (Constant op) = true
+latchesTarget Ld = false
+latchesTarget St = false
+latchesTarget (Unary op) = false
+latchesTarget Nop = false
+latchesTarget Halt = false
+latchesTarget Ldsp = false
+latchesTarget Rts = false
+latchesTarget Pop = false
+latchesTarget Push = true
+latchesTarget (Jump condition target) = false
+latchesTarget (Call target) = false
+
+-- the number of the register that RB takes
+abbrev pub secondRegister : Kind → ℕ → ℕ
+secondRegister kind w = cond (latchesTarget kind) (fieldT w) (fieldB w)

@@ -1,0 +1,88 @@
+-- Document 01, 'Instruction table': the 40 instructions, and where each word stands among them.
+use Prim.Native.Nat.{ℕ, _+_, _-_, _*_}
+use mathlib.Core.Bool.{cond}
+use mathlib.Core.List.{List, [], _∷_}
+use lib.Dec.{ltb, eqb}
+use lib.ListN.{getD}
+use Rattle.isa.specs.Fields.{fieldO, fieldB, fieldE}
+use Rattle.isa.specs.declared.Kind.{Kind}
+use Rattle.isa.specs.declared.Kind.the-variants.{Undefined, Binary, Constant, Ld, St, Unary, Nop, Halt, Ldsp, Rts, Pop, Push, Jump, Call}
+use Rattle.isa.specs.declared.BinaryOp.the-variants.{Add, Sub, And, Or, Xor}
+use Rattle.isa.specs.declared.ConstantOp.the-variants.{Addi, Subi, Ldl, Ldh}
+use Rattle.isa.specs.declared.UnaryOp.the-variants.{Sl0, Sl1, Sr0, Sr1, Not}
+use Rattle.isa.specs.declared.Condition.the-variants.{Always, Negative, Zero, Carry, Overflow}
+use Rattle.isa.specs.declared.Target.the-variants.{Relative, Absolute, Displaced}
+
+-- the table, in the order of document 01
+unfoldable pub table : List Kind
+table =
+    -- o 0 to A
+    Binary Add ∷
+    Binary Sub ∷
+    Binary And ∷
+    Binary Or ∷
+    Binary Xor ∷
+    Constant Addi ∷
+    Constant Subi ∷
+    Constant Ldl ∷
+    Constant Ldh ∷
+    Ld ∷
+    St ∷
+    -- B, by b
+    Unary Sl0 ∷
+    Unary Sl1 ∷
+    Unary Sr0 ∷
+    Unary Sr1 ∷
+    Unary Not ∷
+    Nop ∷
+    Halt ∷
+    Ldsp ∷
+    Rts ∷
+    Pop ∷
+    Push ∷
+    -- C, by b: JMPR to JMPVR, JMP to JMPV, JSRR, JSR
+    Jump Always Relative ∷
+    Jump Negative Relative ∷
+    Jump Zero Relative ∷
+    Jump Carry Relative ∷
+    Jump Overflow Relative ∷
+    Jump Always Absolute ∷
+    Jump Negative Absolute ∷
+    Jump Zero Absolute ∷
+    Jump Carry Absolute ∷
+    Jump Overflow Absolute ∷
+    Call Relative ∷
+    Call Absolute ∷
+    -- D: JMPD
+    Jump Always Displaced ∷
+    -- E, by bits 11-10: JMPND to JMPVD
+    Jump Negative Displaced ∷
+    Jump Zero Displaced ∷
+    Jump Carry Displaced ∷
+    Jump Overflow Displaced ∷
+    -- F: JSRD
+    Call Displaced ∷
+    []
+
+-- where a word stands in the table; 40, past its end, for an undefined word
+-- ('B with b from B to F and C with b from C to F are undefined')
+unfoldable pub numberOf : ℕ → ℕ
+numberOf w =
+    cond (ltb (fieldO w) 11) (fieldO w)
+    (cond (eqb (fieldO w) 11) (cond (ltb (fieldB w) 11) (11 + fieldB w) 40)
+    (cond (eqb (fieldO w) 12) (cond (ltb (fieldB w) 12) (22 + fieldB w) 40)
+    (cond (eqb (fieldO w) 13) 34
+    (cond (eqb (fieldO w) 14) (35 + fieldE w) 39))))
+
+-- which instruction a word is
+unfoldable pub kindOf : ℕ → Kind
+kindOf w = getD table (numberOf w) Undefined
+
+-- the word of the table's entry n whose other fields are zero
+unfoldable pub wordOf : ℕ → ℕ
+wordOf n =
+    cond (ltb n 11) (n * 0x1000)
+    (cond (ltb n 22) (0xB000 + (n - 11))
+    (cond (ltb n 34) (0xC000 + (n - 22))
+    (cond (ltb n 35) 0xD000
+    (cond (ltb n 39) (0xE000 + (n - 35) * 0x400) 0xF000))))

@@ -1,0 +1,341 @@
+// The instruction set of document 01: kinds, the one table, fields, conditions, targets and cycle counts.
+ghost use mathlib.Core.Path.{_≡_};
+ghost use Rattle.isa.specs.Fields.{fieldO, fieldT, fieldA, fieldB, fieldK, d10, d12};
+ghost use Rattle.isa.specs.Table.{numberOf, kindOf, wordOf};
+ghost use Rattle.isa.specs.Control.{taken, address, jumpTarget, callTarget, latchesTarget, secondRegister};
+ghost use Rattle.isa.specs.Cost.{countOf, jumpClass, classOf, costOf};
+
+pub enum BinaryOp {
+    Add,
+    Sub,
+    And,
+    Or,
+    Xor,
+}
+
+pub enum ConstantOp {
+    Addi,
+    Subi,
+    Ldl,
+    Ldh,
+}
+
+pub enum UnaryOp {
+    Sl0,
+    Sl1,
+    Sr0,
+    Sr1,
+    Not,
+}
+
+pub enum Condition {
+    Always,
+    Negative,
+    Zero,
+    Carry,
+    Overflow,
+}
+
+// Where a jump or a call goes: PC+Ra, Ra, or PC and the displacement (d10 of a jump, d12 of a call).
+pub enum Target {
+    Relative,
+    Absolute,
+    Displaced,
+}
+
+// An instruction without its operands.
+pub enum Kind {
+    Undefined,
+    Binary(BinaryOp),
+    Constant(ConstantOp),
+    Ld,
+    St,
+    Unary(UnaryOp),
+    Nop,
+    Halt,
+    Ldsp,
+    Rts,
+    Pop,
+    Push,
+    Jump(Condition, Target),
+    Call(Target),
+}
+
+pub struct Flags {
+    pub n: bool,
+    pub z: bool,
+    pub c: bool,
+    pub v: bool,
+}
+
+// What an instruction's cost goes by: HALT and undefined; NOP and an untaken jump; all others.
+pub enum Class {
+    Stop,
+    Short,
+    Full,
+}
+
+// A number of clock cycles.
+pub struct Cycles(pub u32);
+
+// The instruction table, in the order of document 01.
+const TABLE: [Kind; 40] = [
+    Kind::Binary(BinaryOp::Add),
+    Kind::Binary(BinaryOp::Sub),
+    Kind::Binary(BinaryOp::And),
+    Kind::Binary(BinaryOp::Or),
+    Kind::Binary(BinaryOp::Xor),
+    Kind::Constant(ConstantOp::Addi),
+    Kind::Constant(ConstantOp::Subi),
+    Kind::Constant(ConstantOp::Ldl),
+    Kind::Constant(ConstantOp::Ldh),
+    Kind::Ld,
+    Kind::St,
+    Kind::Unary(UnaryOp::Sl0),
+    Kind::Unary(UnaryOp::Sl1),
+    Kind::Unary(UnaryOp::Sr0),
+    Kind::Unary(UnaryOp::Sr1),
+    Kind::Unary(UnaryOp::Not),
+    Kind::Nop,
+    Kind::Halt,
+    Kind::Ldsp,
+    Kind::Rts,
+    Kind::Pop,
+    Kind::Push,
+    Kind::Jump(Condition::Always, Target::Relative),
+    Kind::Jump(Condition::Negative, Target::Relative),
+    Kind::Jump(Condition::Zero, Target::Relative),
+    Kind::Jump(Condition::Carry, Target::Relative),
+    Kind::Jump(Condition::Overflow, Target::Relative),
+    Kind::Jump(Condition::Always, Target::Absolute),
+    Kind::Jump(Condition::Negative, Target::Absolute),
+    Kind::Jump(Condition::Zero, Target::Absolute),
+    Kind::Jump(Condition::Carry, Target::Absolute),
+    Kind::Jump(Condition::Overflow, Target::Absolute),
+    Kind::Call(Target::Relative),
+    Kind::Call(Target::Absolute),
+    Kind::Jump(Condition::Always, Target::Displaced),
+    Kind::Jump(Condition::Negative, Target::Displaced),
+    Kind::Jump(Condition::Zero, Target::Displaced),
+    Kind::Jump(Condition::Carry, Target::Displaced),
+    Kind::Jump(Condition::Overflow, Target::Displaced),
+    Kind::Call(Target::Displaced),
+];
+
+pub fn field_o(word: u16) -> u8
+    ensures { λ r. ⌜ r ≡ fieldO word ⌝ }
+{
+    (word / 4096) as u8
+}
+
+pub fn field_t(word: u16) -> u8
+    ensures { λ r. ⌜ r ≡ fieldT word ⌝ }
+{
+    (word / 256 % 16) as u8
+}
+
+pub fn field_a(word: u16) -> u8
+    ensures { λ r. ⌜ r ≡ fieldA word ⌝ }
+{
+    (word / 16 % 16) as u8
+}
+
+pub fn field_b(word: u16) -> u8
+    ensures { λ r. ⌜ r ≡ fieldB word ⌝ }
+{
+    (word % 16) as u8
+}
+
+pub fn field_k(word: u16) -> u8
+    ensures { λ r. ⌜ r ≡ fieldK word ⌝ }
+{
+    (word % 256) as u8
+}
+
+// The displacement of a jump, sign extended to a word.
+pub fn field_d10(word: u16) -> u16
+    ensures { λ r. ⌜ r ≡ d10 word ⌝ }
+{
+    let d = word % 1024;
+    if d < 512 { d } else { d + 64512 }
+}
+
+// The displacement of a call, sign extended to a word.
+pub fn field_d12(word: u16) -> u16
+    ensures { λ r. ⌜ r ≡ d12 word ⌝ }
+{
+    let d = word % 4096;
+    if d < 2048 { d } else { d + 61440 }
+}
+
+// Where a word stands in the table; 40 for an undefined word.
+fn number_of(word: u16) -> u8
+    ensures { λ r. ⌜ r ≡ numberOf word ⌝ }
+{
+    let o = (word / 4096) as u8;
+    let b = (word % 16) as u8;
+    if o < 11 {
+        return o;
+    }
+    if o == 11 {
+        return if b < 11 { 11 + b } else { 40 };
+    }
+    if o == 12 {
+        return if b < 12 { 22 + b } else { 40 };
+    }
+    if o == 13 {
+        return 34;
+    }
+    if o == 14 {
+        return 35 + (word / 1024 % 4) as u8;
+    }
+    39
+}
+
+// Which instruction a word is.
+pub fn kind_of(word: u16) -> Kind
+    ensures { λ r. ⌜ r ≡ kindOf word ⌝ }
+{
+    let n = number_of(word) as usize;
+    if n < 40 { TABLE[n] } else { Kind::Undefined }
+}
+
+// The word of the table's entry at a number, all operands zero.
+pub fn word_of(number: u8) -> u16
+    ensures { λ r. ⌜ r ≡ wordOf number ⌝ }
+{
+    let n = number as u16;
+    if n < 11 {
+        return n * 0x1000;
+    }
+    if n < 22 {
+        return 0xB000 + (n - 11);
+    }
+    if n < 34 {
+        return 0xC000 + (n - 22);
+    }
+    if n < 35 {
+        return 0xD000;
+    }
+    if n < 39 {
+        return 0xE000 + (n - 35) * 0x400;
+    }
+    0xF000
+}
+
+// Does a jump on this condition go?
+pub fn is_taken(condition: Condition, flags: Flags) -> bool
+    ensures { λ r. ⌜ r ≡ taken condition flags ⌝ }
+{
+    match condition {
+        Condition::Always => true,
+        Condition::Negative => flags.n,
+        Condition::Zero => flags.z,
+        Condition::Carry => flags.c,
+        Condition::Overflow => flags.v,
+    }
+}
+
+fn address_of(target: Target, pc: u16, register: u16, displacement: u16) -> u16
+    ensures { λ r. ⌜ r ≡ address target pc register displacement ⌝ }
+{
+    match target {
+        Target::Relative => words::add(pc, register),
+        Target::Absolute => register,
+        Target::Displaced => words::add(pc, displacement),
+    }
+}
+
+// Where a jump goes: `pc` is one past the instruction, `register` is Ra.
+pub fn jump_target(target: Target, word: u16, pc: u16, register: u16) -> u16
+    ensures { λ r. ⌜ r ≡ jumpTarget target word pc register ⌝ }
+{
+    address_of(target, pc, register, field_d10(word))
+}
+
+// Where a call goes, likewise.
+pub fn call_target(target: Target, word: u16, pc: u16, register: u16) -> u16
+    ensures { λ r. ⌜ r ≡ callTarget target word pc register ⌝ }
+{
+    address_of(target, pc, register, field_d12(word))
+}
+
+// Does RB take Rt in cycle 2, and not Rb?
+fn latches_target(kind: Kind) -> bool
+    ensures { λ r. ⌜ r ≡ latchesTarget kind ⌝ }
+{
+    match kind {
+        Kind::Undefined => false,
+        Kind::Binary(_) => false,
+        Kind::Constant(_) => true,
+        Kind::Ld => false,
+        Kind::St => false,
+        Kind::Unary(_) => false,
+        Kind::Nop => false,
+        Kind::Halt => false,
+        Kind::Ldsp => false,
+        Kind::Rts => false,
+        Kind::Pop => false,
+        Kind::Push => true,
+        Kind::Jump(_, _) => false,
+        Kind::Call(_) => false,
+    }
+}
+
+// The number of the register that cycle 2 latches into RB.
+pub fn second_register(kind: Kind, word: u16) -> u8
+    ensures { λ r. ⌜ r ≡ secondRegister kind word ⌝ }
+{
+    if latches_target(kind) {
+        field_t(word)
+    } else {
+        field_b(word)
+    }
+}
+
+// The cycle counts, by class.
+const COUNTS: [u32; 3] = [2, 3, 4];
+
+fn count_of(class: Class) -> u32
+    ensures { λ r. ⌜ r ≡ countOf class ⌝ }
+{
+    match class {
+        Class::Stop => COUNTS[0],
+        Class::Short => COUNTS[1],
+        Class::Full => COUNTS[2],
+    }
+}
+
+fn jump_class(taken: bool) -> Class
+    ensures { λ r. ⌜ r ≡ jumpClass taken ⌝ }
+{
+    if taken { Class::Full } else { Class::Short }
+}
+
+fn class_of(kind: Kind, flags: Flags) -> Class
+    ensures { λ r. ⌜ r ≡ classOf kind flags ⌝ }
+{
+    match kind {
+        Kind::Undefined => Class::Stop,
+        Kind::Binary(_) => Class::Full,
+        Kind::Constant(_) => Class::Full,
+        Kind::Ld => Class::Full,
+        Kind::St => Class::Full,
+        Kind::Unary(_) => Class::Full,
+        Kind::Nop => Class::Short,
+        Kind::Halt => Class::Stop,
+        Kind::Ldsp => Class::Full,
+        Kind::Rts => Class::Full,
+        Kind::Pop => Class::Full,
+        Kind::Push => Class::Full,
+        Kind::Jump(condition, _) => jump_class(is_taken(condition, flags)),
+        Kind::Call(_) => Class::Full,
+    }
+}
+
+// The cycles that an instruction takes under these flags.
+pub fn cost(kind: Kind, flags: Flags) -> Cycles
+    ensures { λ r. ⌜ r .0 ≡ costOf kind flags ⌝ }
+{
+    Cycles(count_of(class_of(kind, flags)))
+}
