@@ -1,0 +1,300 @@
+// Instruction words and forms: word to form and form to word, by the one table.
+ghost use mathlib.Core.Path.{_≡_};
+ghost use Prim.Native.Nat.{_%_};
+ghost use Rattle.forms.specs.Answers.{formAnswer, wordAnswer};
+ghost use Rattle.forms.specs.Operands.{signed, unsigned, operandsOf, outside, fault, placed};
+ghost use Rattle.forms.specs.Reading.{formWith, formOf};
+ghost use Rattle.forms.specs.Writing.{binaryEntry, constantEntry, unaryEntry, relativeEntry, absoluteEntry, displacedEntry, written, wordFrom};
+use isa::BinaryOp;
+use isa::Condition;
+use isa::ConstantOp;
+use isa::Kind;
+use isa::Target;
+use isa::UnaryOp;
+
+// An instruction with the operands that it has.
+pub enum Form {
+    Binary { op: BinaryOp, t: u8, a: u8, b: u8 },
+    Constant { op: ConstantOp, t: u8, k: u16 },
+    Ld { t: u8, a: u8, b: u8 },
+    St { t: u8, a: u8, b: u8 },
+    Unary { op: UnaryOp, t: u8, a: u8 },
+    Nop,
+    Halt,
+    Ldsp { a: u8 },
+    Rts,
+    Pop { t: u8 },
+    Push { t: u8 },
+    JumpRelative { condition: Condition, a: u8 },
+    JumpAbsolute { condition: Condition, a: u8 },
+    CallRelative { a: u8 },
+    CallAbsolute { a: u8 },
+    JumpDisplaced { condition: Condition, d: i16 },
+    CallDisplaced { d: i16 },
+}
+
+// What word to form answers.
+pub enum FormAnswer {
+    Read(Form),
+    Undefined,
+}
+
+// What form to word answers.
+pub enum WordAnswer {
+    Written(u16),
+    OutOfRange,
+}
+
+// All operands that there are: t, a, b, k, d10, d12.
+pub struct Operands(pub u8, pub u8, pub u8, pub u16, pub i16, pub i16);
+
+// A word as a signed number.
+fn signed_of(word: u16) -> i16
+    ensures { λ r. ⌜ r ≡ signed word ⌝ }
+{
+    if word < 32768 {
+        word as i16
+    } else {
+        !((65535 - word) as i16)
+    }
+}
+
+// A signed number as a word.
+fn unsigned_of(d: i16) -> u16
+    ensures { λ r. ⌜ r ≡ unsigned d ⌝ }
+{
+    if d < 0 { 65535 - (!d) as u16 } else { d as u16 }
+}
+
+fn operands_of(word: u16) -> Operands
+    ensures { λ r. ⌜ r ≡ operandsOf word ⌝ }
+{
+    let t = isa::field_t(word);
+    let a = isa::field_a(word);
+    let b = isa::field_b(word);
+    let k = isa::field_k(word) as u16;
+    let d10 = signed_of(isa::field_d10(word));
+    let d12 = signed_of(isa::field_d12(word));
+    Operands(t, a, b, k, d10, d12)
+}
+
+fn form_with(kind: Kind, o: Operands) -> FormAnswer
+    ensures { λ r. ⌜ formAnswer r ≡ formWith kind o ⌝ }
+{
+    match kind {
+        Kind::Undefined => FormAnswer::Undefined,
+        Kind::Binary(op) => FormAnswer::Read(Form::Binary {
+            op: op,
+            t: o.0,
+            a: o.1,
+            b: o.2,
+        }),
+        Kind::Constant(op) => FormAnswer::Read(Form::Constant {
+            op: op,
+            t: o.0,
+            k: o.3,
+        }),
+        Kind::Ld => FormAnswer::Read(Form::Ld {
+            t: o.0,
+            a: o.1,
+            b: o.2,
+        }),
+        Kind::St => FormAnswer::Read(Form::St {
+            t: o.0,
+            a: o.1,
+            b: o.2,
+        }),
+        Kind::Unary(op) => FormAnswer::Read(Form::Unary {
+            op: op,
+            t: o.0,
+            a: o.1,
+        }),
+        Kind::Nop => FormAnswer::Read(Form::Nop),
+        Kind::Halt => FormAnswer::Read(Form::Halt),
+        Kind::Ldsp => FormAnswer::Read(Form::Ldsp { a: o.1 }),
+        Kind::Rts => FormAnswer::Read(Form::Rts),
+        Kind::Pop => FormAnswer::Read(Form::Pop { t: o.0 }),
+        Kind::Push => FormAnswer::Read(Form::Push { t: o.0 }),
+        Kind::Jump(condition, target) => match target {
+            Target::Relative => FormAnswer::Read(Form::JumpRelative {
+                condition: condition,
+                a: o.1,
+            }),
+            Target::Absolute => FormAnswer::Read(Form::JumpAbsolute {
+                condition: condition,
+                a: o.1,
+            }),
+            Target::Displaced => FormAnswer::Read(Form::JumpDisplaced {
+                condition: condition,
+                d: o.4,
+            }),
+        },
+        Kind::Call(target) => match target {
+            Target::Relative => FormAnswer::Read(Form::CallRelative { a: o.1 }),
+            Target::Absolute => FormAnswer::Read(Form::CallAbsolute { a: o.1 }),
+            Target::Displaced => FormAnswer::Read(Form::CallDisplaced { d: o.5 }),
+        },
+    }
+}
+
+// Word to form: the form, or number 6.
+pub fn form_of(word: u16) -> FormAnswer
+    ensures { λ r. ⌜ formAnswer r ≡ formOf word ⌝ }
+{
+    form_with(isa::kind_of(word), operands_of(word))
+}
+
+fn binary_entry(op: BinaryOp) -> u8
+    ensures { λ r. ⌜ r ≡ binaryEntry op ⌝ }
+{
+    match op {
+        BinaryOp::Add => 0,
+        BinaryOp::Sub => 1,
+        BinaryOp::And => 2,
+        BinaryOp::Or => 3,
+        BinaryOp::Xor => 4,
+    }
+}
+
+fn constant_entry(op: ConstantOp) -> u8
+    ensures { λ r. ⌜ r ≡ constantEntry op ⌝ }
+{
+    match op {
+        ConstantOp::Addi => 5,
+        ConstantOp::Subi => 6,
+        ConstantOp::Ldl => 7,
+        ConstantOp::Ldh => 8,
+    }
+}
+
+fn unary_entry(op: UnaryOp) -> u8
+    ensures { λ r. ⌜ r ≡ unaryEntry op ⌝ }
+{
+    match op {
+        UnaryOp::Sl0 => 11,
+        UnaryOp::Sl1 => 12,
+        UnaryOp::Sr0 => 13,
+        UnaryOp::Sr1 => 14,
+        UnaryOp::Not => 15,
+    }
+}
+
+fn relative_entry(condition: Condition) -> u8
+    ensures { λ r. ⌜ r ≡ relativeEntry condition ⌝ }
+{
+    match condition {
+        Condition::Always => 22,
+        Condition::Negative => 23,
+        Condition::Zero => 24,
+        Condition::Carry => 25,
+        Condition::Overflow => 26,
+    }
+}
+
+fn absolute_entry(condition: Condition) -> u8
+    ensures { λ r. ⌜ r ≡ absoluteEntry condition ⌝ }
+{
+    match condition {
+        Condition::Always => 27,
+        Condition::Negative => 28,
+        Condition::Zero => 29,
+        Condition::Carry => 30,
+        Condition::Overflow => 31,
+    }
+}
+
+fn displaced_entry(condition: Condition) -> u8
+    ensures { λ r. ⌜ r ≡ displacedEntry condition ⌝ }
+{
+    match condition {
+        Condition::Always => 34,
+        Condition::Negative => 35,
+        Condition::Zero => 36,
+        Condition::Carry => 37,
+        Condition::Overflow => 38,
+    }
+}
+
+fn is_outside(d: i16, least: i16, most: i16) -> bool
+    ensures { λ r. ⌜ r ≡ outside least most d ⌝ }
+{
+    if d < least { true } else { most < d }
+}
+
+fn has_fault(o: Operands) -> bool
+    ensures { λ r. ⌜ r ≡ fault o ⌝ }
+{
+    if 15 < o.0 {
+        return true;
+    }
+    if 15 < o.1 {
+        return true;
+    }
+    if 15 < o.2 {
+        return true;
+    }
+    if 255 < o.3 {
+        return true;
+    }
+    if is_outside(o.4, -512, 511) {
+        return true;
+    }
+    is_outside(o.5, -2048, 2047)
+}
+
+fn placed_of(o: Operands) -> u16
+    ensures { λ r. ⌜ r ≡ placed o % 65536 ⌝ }
+{
+    let d10 = unsigned_of(o.4) % 1024;
+    let d12 = unsigned_of(o.5) % 4096;
+    let sum = o.0 as u32 * 256
+        + o.1 as u32 * 16
+        + o.2 as u32
+        + o.3 as u32
+        + d10 as u32
+        + d12 as u32;
+    (sum % 65536) as u16
+}
+
+fn write(entry: u8, o: Operands) -> WordAnswer
+    ensures { λ r. ⌜ wordAnswer r ≡ written entry o ⌝ }
+{
+    if has_fault(o) {
+        return WordAnswer::OutOfRange;
+    }
+    WordAnswer::Written(words::add(isa::word_of(entry), placed_of(o)))
+}
+
+// Form to word: the word, its unused fields zero, or number 5.
+pub fn word_from(form: Form) -> WordAnswer
+    ensures { λ r. ⌜ wordAnswer r ≡ wordFrom form ⌝ }
+{
+    match form {
+        Form::Binary { op, t, a, b } => write(binary_entry(op), Operands(t, a, b, 0, 0, 0)),
+        Form::Constant { op, t, k } => write(constant_entry(op), Operands(t, 0, 0, k, 0, 0)),
+        Form::Ld { t, a, b } => write(9, Operands(t, a, b, 0, 0, 0)),
+        Form::St { t, a, b } => write(10, Operands(t, a, b, 0, 0, 0)),
+        Form::Unary { op, t, a } => write(unary_entry(op), Operands(t, a, 0, 0, 0, 0)),
+        Form::Nop => write(16, Operands(0, 0, 0, 0, 0, 0)),
+        Form::Halt => write(17, Operands(0, 0, 0, 0, 0, 0)),
+        Form::Ldsp { a } => write(18, Operands(0, a, 0, 0, 0, 0)),
+        Form::Rts => write(19, Operands(0, 0, 0, 0, 0, 0)),
+        Form::Pop { t } => write(20, Operands(t, 0, 0, 0, 0, 0)),
+        Form::Push { t } => write(21, Operands(t, 0, 0, 0, 0, 0)),
+        Form::JumpRelative { condition, a } => write(
+            relative_entry(condition),
+            Operands(0, a, 0, 0, 0, 0),
+        ),
+        Form::JumpAbsolute { condition, a } => write(
+            absolute_entry(condition),
+            Operands(0, a, 0, 0, 0, 0),
+        ),
+        Form::CallRelative { a } => write(32, Operands(0, a, 0, 0, 0, 0)),
+        Form::CallAbsolute { a } => write(33, Operands(0, a, 0, 0, 0, 0)),
+        Form::JumpDisplaced { condition, d } => write(
+            displaced_entry(condition),
+            Operands(0, 0, 0, 0, d, 0),
+        ),
+        Form::CallDisplaced { d } => write(39, Operands(0, 0, 0, 0, 0, d)),
+    }
+}
