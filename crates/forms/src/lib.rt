@@ -4,7 +4,9 @@ ghost use Prim.Native.Nat.{_%_};
 ghost use Rattle.forms.specs.Answers.{formAnswer, wordAnswer};
 ghost use Rattle.forms.specs.Operands.{signed, unsigned, operandsOf, outside, fault, placed};
 ghost use Rattle.forms.specs.Reading.{formWith, formOf};
-ghost use Rattle.forms.specs.Writing.{binaryEntry, constantEntry, unaryEntry, relativeEntry, absoluteEntry, displacedEntry, written, wordFrom};
+ghost use Rattle.forms.specs.Writing.{writtenAt, wordFrom};
+ghost use Rattle.isa.specs.Table.{binaryEntry, constantEntry, unaryEntry, jumpEntry};
+ghost use Rattle.isa.specs.declared.Target.the-variants.{Relative, Absolute, Displaced};
 use isa::BinaryOp;
 use isa::Condition;
 use isa::ConstantOp;
@@ -180,7 +182,7 @@ fn unary_entry(op: UnaryOp) -> u8
 }
 
 fn relative_entry(condition: Condition) -> u8
-    ensures { λ r. ⌜ r ≡ relativeEntry condition ⌝ }
+    ensures { λ r. ⌜ r ≡ jumpEntry Relative condition ⌝ }
 {
     match condition {
         Condition::Always => 22,
@@ -192,7 +194,7 @@ fn relative_entry(condition: Condition) -> u8
 }
 
 fn absolute_entry(condition: Condition) -> u8
-    ensures { λ r. ⌜ r ≡ absoluteEntry condition ⌝ }
+    ensures { λ r. ⌜ r ≡ jumpEntry Absolute condition ⌝ }
 {
     match condition {
         Condition::Always => 27,
@@ -204,7 +206,7 @@ fn absolute_entry(condition: Condition) -> u8
 }
 
 fn displaced_entry(condition: Condition) -> u8
-    ensures { λ r. ⌜ r ≡ displacedEntry condition ⌝ }
+    ensures { λ r. ⌜ r ≡ jumpEntry Displaced condition ⌝ }
 {
     match condition {
         Condition::Always => 34,
@@ -257,7 +259,7 @@ fn placed_of(o: Operands) -> u16
 }
 
 fn write(entry: u8, o: Operands) -> WordAnswer
-    ensures { λ r. ⌜ wordAnswer r ≡ written entry o ⌝ }
+    ensures { λ r. ⌜ wordAnswer r ≡ writtenAt entry o ⌝ }
 {
     if has_fault(o) {
         return WordAnswer::OutOfRange;

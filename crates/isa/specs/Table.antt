@@ -7,10 +7,15 @@ use lib.ListN.{getD}
 use Rattle.isa.specs.Fields.{fieldO, fieldB, fieldE}
 use Rattle.isa.specs.declared.Kind.{Kind}
 use Rattle.isa.specs.declared.Kind.the-variants.{Undefined, Binary, Constant, Ld, St, Unary, Nop, Halt, Ldsp, Rts, Pop, Push, Jump, Call}
+use Rattle.isa.specs.declared.BinaryOp.{BinaryOp}
 use Rattle.isa.specs.declared.BinaryOp.the-variants.{Add, Sub, And, Or, Xor}
+use Rattle.isa.specs.declared.ConstantOp.{ConstantOp}
 use Rattle.isa.specs.declared.ConstantOp.the-variants.{Addi, Subi, Ldl, Ldh}
+use Rattle.isa.specs.declared.UnaryOp.{UnaryOp}
 use Rattle.isa.specs.declared.UnaryOp.the-variants.{Sl0, Sl1, Sr0, Sr1, Not}
+use Rattle.isa.specs.declared.Condition.{Condition}
 use Rattle.isa.specs.declared.Condition.the-variants.{Always, Negative, Zero, Carry, Overflow}
+use Rattle.isa.specs.declared.Target.{Target}
 use Rattle.isa.specs.declared.Target.the-variants.{Relative, Absolute, Displaced}
 
 -- the table, in the order of document 01
@@ -77,6 +82,65 @@ numberOf w =
 -- which instruction a word is
 unfoldable pub kindOf : ℕ → Kind
 kindOf w = getD table (numberOf w) Undefined
+
+-- where an instruction stands in the table; 40, past its end, for the undefined kind
+abbrev pub binaryEntry : BinaryOp → ℕ
+binaryEntry Add = 0
+binaryEntry Sub = 1
+binaryEntry And = 2
+binaryEntry Or = 3
+binaryEntry Xor = 4
+
+abbrev pub constantEntry : ConstantOp → ℕ
+constantEntry Addi = 5
+constantEntry Subi = 6
+constantEntry Ldl = 7
+constantEntry Ldh = 8
+
+abbrev pub unaryEntry : UnaryOp → ℕ
+unaryEntry Sl0 = 11
+unaryEntry Sl1 = 12
+unaryEntry Sr0 = 13
+unaryEntry Sr1 = 14
+unaryEntry Not = 15
+
+abbrev pub jumpEntry : Target → Condition → ℕ
+jumpEntry Relative Always = 22
+jumpEntry Relative Negative = 23
+jumpEntry Relative Zero = 24
+jumpEntry Relative Carry = 25
+jumpEntry Relative Overflow = 26
+jumpEntry Absolute Always = 27
+jumpEntry Absolute Negative = 28
+jumpEntry Absolute Zero = 29
+jumpEntry Absolute Carry = 30
+jumpEntry Absolute Overflow = 31
+jumpEntry Displaced Always = 34
+jumpEntry Displaced Negative = 35
+jumpEntry Displaced Zero = 36
+jumpEntry Displaced Carry = 37
+jumpEntry Displaced Overflow = 38
+
+abbrev pub callEntry : Target → ℕ
+callEntry Relative = 32
+callEntry Absolute = 33
+callEntry Displaced = 39
+
+abbrev pub entry : Kind → ℕ
+entry Undefined = 40
+entry (Binary op) = binaryEntry op
+entry (Constant op) = constantEntry op
+entry Ld = 9
+entry St = 10
+entry (Unary op) = unaryEntry op
+entry Nop = 16
+entry Halt = 17
+entry Ldsp = 18
+entry Rts = 19
+entry Pop = 20
+entry Push = 21
+entry (Jump condition target) = jumpEntry target condition
+entry (Call target) = callEntry target
 
 -- the word of the table's entry n whose other fields are zero
 unfoldable pub wordOf : ℕ → ℕ

@@ -1,6 +1,6 @@
 use native.Mathlib.Omega.{arith}
 use mathlib.Core.Path.{ap}
-use Rattle.forms.specs.Writing.{written}
+use Rattle.forms.specs.Writing.{writtenAt}
 use Rattle.forms.specs.Answers.{given}
 use borrow.Author.Needs.{needs}
 use Rattle.forms.proofs.write.Statement.{statement}
@@ -18,7 +18,7 @@ has-fault-requires c κs = search needs
 
 -- src/lib.rt:263:9
 returns : tie.Need-returns
-unfolding written
+unfolding writtenAt
 returns c = rw (← c .before .has-fault .ensures, c .if1 .taken)
 
 -- src/lib.rt:265:36
@@ -35,7 +35,7 @@ add-requires c κs = search needs
 
 -- src/lib.rt:259:1
 returns-2 : tie.Need-returns-2
-unfolding written
+unfolding writtenAt
 returns-2 c = rw (← c .before .before .before .before .has-fault .ensures, c .before .before .before .if1 .left, c .add .ensures, c .before .placed-of .ensures, c .before .before .word-of .ensures) (ap given (omega arith))
 
 pub write-spec : {M : Type 1} → statement M

@@ -1,0 +1,74 @@
+-- The table and `entry` are inverse to each other: one computed test each way. Assumes nothing.
+use mathlib.Core.Path.{_≡_, refl, sym, ap, _∙_}
+use mathlib.Core.Bool.{Bool, true, _&&_}
+use mathlib.Core.List.{List, [], _∷_, map}
+use Prim.Native.Nat.{ℕ, zero, suc, _+_, _≤_, _<_}
+use native.Mathlib.Nat.{add-zero, add-suc, suc-add, le-of-suc-le-suc, not-suc-le-zero}
+use native.Mathlib.Omega.{arith}
+use lib.Dec.{T, eqb, eqb→eq}
+use lib.ListN.{length, getD, List·getD-map}
+use Rattle.isa.specs.Table.{table, numberOf, kindOf, entry}
+use Rattle.isa.specs.declared.Kind.{Kind}
+use Rattle.isa.specs.declared.Kind.the-variants.{Undefined, Binary, Constant, Ld, St, Unary, Nop, Halt, Ldsp, Rts, Pop, Push, Jump, Call}
+use Rattle.isa.specs.declared.BinaryOp.the-variants.{Add, Sub, And, Or, Xor}
+use Rattle.isa.specs.declared.ConstantOp.the-variants.{Addi, Subi, Ldl, Ldh}
+use Rattle.isa.specs.declared.UnaryOp.the-variants.{Sl0, Sl1, Sr0, Sr1, Not}
+use Rattle.isa.specs.declared.Condition.the-variants.{Always, Negative, Zero, Carry, Overflow}
+use Rattle.isa.specs.declared.Target.the-variants.{Relative, Absolute, Displaced}
+use Rattle.isa.proofs.Lines.{number-le}
+
+-- the list counts up from i
+counts : ℕ → List ℕ → Bool
+counts i [] = true
+counts i (x ∷ xs) = eqb x i && counts (suc i) xs
+
+and-left : (a b : Bool) → T (a && b) → T a
+and-left true b t = tt
+and-left mathlib.Core.Bool.false b t = t
+
+and-right : (a b : Bool) → T (a && b) → T b
+and-right true b t = t
+and-right mathlib.Core.Bool.false b t = absurd t
+
+counted : (xs : List ℕ) (i d : ℕ) → T (counts i xs) → d ≡ i + length xs → (k : ℕ) → k ≤ length xs → getD xs k d ≡ i + k
+unfolding counts
+counted [] i d t e zero h = e
+counted [] i d t e (suc k) h = absurd (not-suc-le-zero h)
+counted (x ∷ xs) i d t e zero h = eqb→eq x i (and-left (eqb x i) (counts (suc i) xs) t) ∙ sym (add-zero i)
+counted (x ∷ xs) i d t e (suc k) h =
+    counted xs (suc i) d (and-right (eqb x i) (counts (suc i) xs) t) (omega (arith, e)) k (le-of-suc-le-suc h) ∙ omega arith
+
+-- the kind at a place of the table stands at that place
+pub entry-at : (n : ℕ) → n ≤ 40 → entry (getD table n Undefined) ≡ n
+unfolding table counts
+entry-at n h =
+    sym (List·getD-map entry table n Undefined) ∙ counted (map entry table) 0 40 tt refl n h ∙ omega arith
+
+pub entry-kind : (w : ℕ) → w < 65536 → entry (kindOf w) ≡ numberOf w
+unfolding kindOf
+entry-kind w h = entry-at (numberOf w) (number-le w h)
+
+-- and at its own place each kind is found
+pub kind-at : (k : Kind) → getD table (entry k) Undefined ≡ k
+unfolding table
+kind-at Undefined = refl
+kind-at (Binary op) = elim op [ Add ↦ refl | Sub ↦ refl | And ↦ refl | Or ↦ refl | Xor ↦ refl ]
+kind-at (Constant op) = elim op [ Addi ↦ refl | Subi ↦ refl | Ldl ↦ refl | Ldh ↦ refl ]
+kind-at Ld = refl
+kind-at St = refl
+kind-at (Unary op) = elim op [ Sl0 ↦ refl | Sl1 ↦ refl | Sr0 ↦ refl | Sr1 ↦ refl | Not ↦ refl ]
+kind-at Nop = refl
+kind-at Halt = refl
+kind-at Ldsp = refl
+kind-at Rts = refl
+kind-at Pop = refl
+kind-at Push = refl
+kind-at (Jump c Relative) = elim c [ Always ↦ refl | Negative ↦ refl | Zero ↦ refl | Carry ↦ refl | Overflow ↦ refl ]
+kind-at (Jump c Absolute) = elim c [ Always ↦ refl | Negative ↦ refl | Zero ↦ refl | Carry ↦ refl | Overflow ↦ refl ]
+kind-at (Jump c Displaced) = elim c [ Always ↦ refl | Negative ↦ refl | Zero ↦ refl | Carry ↦ refl | Overflow ↦ refl ]
+kind-at (Call target) = elim target [ Relative ↦ refl | Absolute ↦ refl | Displaced ↦ refl ]
+
+-- a word that stands where a kind does is of that kind
+pub kind-by-number : (w : ℕ) (k : Kind) → numberOf w ≡ entry k → kindOf w ≡ k
+unfolding kindOf
+kind-by-number w k e = ap (λ (n : ℕ). getD table n Undefined) e ∙ kind-at k
