@@ -1,2 +1,5 @@
--- Laws that the proofs of `forms` share.
+-- Laws that the proofs of `forms` share, and the theorems.
 mod Signed
+mod Displacement
+mod Faults
+pub mod Theorems

@@ -3,3 +3,4 @@ pub mod Answers
 pub mod Operands
 pub mod Reading
 pub mod Writing
+pub mod Theorems

@@ -1,21 +1,26 @@
 -- The table and `entry` are inverse to each other: one computed test each way. Assumes nothing.
-use mathlib.Core.Path.{_≡_, refl, sym, ap, _∙_}
-use mathlib.Core.Bool.{Bool, true, _&&_}
+use mathlib.Core.Path.{_≡_, refl, sym, ap, subst, _∙_}
+use mathlib.Core.Bool.{Bool, true, false, _&&_}
 use mathlib.Core.List.{List, [], _∷_, map}
 use Prim.Native.Nat.{ℕ, zero, suc, _+_, _≤_, _<_}
 use native.Mathlib.Nat.{add-zero, add-suc, suc-add, le-of-suc-le-suc, not-suc-le-zero}
 use native.Mathlib.Omega.{arith}
-use lib.Dec.{T, eqb, eqb→eq}
+use lib.Dec.{T, eqb, eqb→eq, lit<, lit≤}
 use lib.ListN.{length, getD, List·getD-map}
-use Rattle.isa.specs.Table.{table, numberOf, kindOf, entry}
+use Rattle.isa.specs.Table.{table, numberOf, kindOf, binaryEntry, constantEntry, unaryEntry, jumpEntry, entry}
 use Rattle.isa.specs.declared.Kind.{Kind}
 use Rattle.isa.specs.declared.Kind.the-variants.{Undefined, Binary, Constant, Ld, St, Unary, Nop, Halt, Ldsp, Rts, Pop, Push, Jump, Call}
+use Rattle.isa.specs.declared.BinaryOp.{BinaryOp}
 use Rattle.isa.specs.declared.BinaryOp.the-variants.{Add, Sub, And, Or, Xor}
+use Rattle.isa.specs.declared.ConstantOp.{ConstantOp}
 use Rattle.isa.specs.declared.ConstantOp.the-variants.{Addi, Subi, Ldl, Ldh}
+use Rattle.isa.specs.declared.UnaryOp.{UnaryOp}
 use Rattle.isa.specs.declared.UnaryOp.the-variants.{Sl0, Sl1, Sr0, Sr1, Not}
+use Rattle.isa.specs.declared.Condition.{Condition}
 use Rattle.isa.specs.declared.Condition.the-variants.{Always, Negative, Zero, Carry, Overflow}
+use Rattle.isa.specs.declared.Target.{Target}
 use Rattle.isa.specs.declared.Target.the-variants.{Relative, Absolute, Displaced}
-use Rattle.isa.proofs.Lines.{number-le}
+use Rattle.isa.proofs.Lines.{number-le, Line, line}
 
 -- the list counts up from i
 counts : ℕ → List ℕ → Bool
@@ -24,11 +29,11 @@ counts i (x ∷ xs) = eqb x i && counts (suc i) xs
 
 and-left : (a b : Bool) → T (a && b) → T a
 and-left true b t = tt
-and-left mathlib.Core.Bool.false b t = t
+and-left false b t = t
 
 and-right : (a b : Bool) → T (a && b) → T b
 and-right true b t = t
-and-right mathlib.Core.Bool.false b t = absurd t
+and-right false b t = absurd t
 
 counted : (xs : List ℕ) (i d : ℕ) → T (counts i xs) → d ≡ i + length xs → (k : ℕ) → k ≤ length xs → getD xs k d ≡ i + k
 unfolding counts
@@ -72,3 +77,28 @@ kind-at (Call target) = elim target [ Relative ↦ refl | Absolute ↦ refl | Di
 pub kind-by-number : (w : ℕ) (k : Kind) → numberOf w ≡ entry k → kindOf w ≡ k
 unfolding kindOf
 kind-by-number w k e = ap (λ (n : ℕ). getD table n Undefined) e ∙ kind-at k
+
+-- which line of the table an entry is on
+pub binary-on-O : (op : BinaryOp) → binaryEntry op < 11
+binary-on-O op = elim op [ Add ↦ lit< tt | Sub ↦ lit< tt | And ↦ lit< tt | Or ↦ lit< tt | Xor ↦ lit< tt ]
+
+pub constant-on-O : (op : ConstantOp) → constantEntry op < 11
+constant-on-O op = elim op [ Addi ↦ lit< tt | Subi ↦ lit< tt | Ldl ↦ lit< tt | Ldh ↦ lit< tt ]
+
+pub unary-on-B : (op : UnaryOp) → (11 ≤ unaryEntry op) × (unaryEntry op < 34)
+unary-on-B op = elim op [ Sl0 ↦ omega arith | Sl1 ↦ omega arith | Sr0 ↦ omega arith | Sr1 ↦ omega arith | Not ↦ omega arith ]
+
+-- the condition counts on from the first jump of a target
+abbrev pub first : Target → ℕ
+first Relative = 22
+first Absolute = 27
+first Displaced = 34
+
+pub jump-on : (t : Target) (c : Condition) → (first t ≤ jumpEntry t c) × (jumpEntry t c < first t + 5)
+jump-on Relative c = elim c [ Always ↦ omega arith | Negative ↦ omega arith | Zero ↦ omega arith | Carry ↦ omega arith | Overflow ↦ omega arith ]
+jump-on Absolute c = elim c [ Always ↦ omega arith | Negative ↦ omega arith | Zero ↦ omega arith | Carry ↦ omega arith | Overflow ↦ omega arith ]
+jump-on Displaced c = elim c [ Always ↦ omega arith | Negative ↦ omega arith | Zero ↦ omega arith | Carry ↦ omega arith | Overflow ↦ omega arith ]
+
+-- the line of a word's own kind
+pub line-of : (w : ℕ) → w < 65536 → (k : Kind) → kindOf w ≡ k → Line w (entry k)
+line-of w h k e = subst (Line w) (sym (entry-kind w h) ∙ ap entry e) (line w h)

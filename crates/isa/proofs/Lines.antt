@@ -1,12 +1,8 @@
 -- Words and entries of the table, there and back, over all fields at one go. Assumes nothing.
-use mathlib.Core.Path.{_≡_, _∙_, ap}
+use mathlib.Core.Path.{_≡_, _∙_}
 use Prim.Native.Nat.{ℕ, _+_, _-_, _*_, _/_, _%_, _≤_, _<_}
 use native.Mathlib.Omega.{arith}
 use native.Mathlib.Decide.{decLt, ℕ-discrete}
-use lib.Dec.{ltb}
-use borrow.Author.Tests.{lt-ltb, le-ltb}
-use mathlib.Core.Bool.{cond}
-use Rattle.words.specs.Arithmetic.{sum}
 use Rattle.isa.specs.Fields.{fieldO, fieldB, fieldE}
 use Rattle.isa.specs.Table.{numberOf, wordOf}
 use Rattle.isa.proofs.Table.{number-O, number-B, number-B-undefined, number-C, number-C-undefined, number-D, number-E, number-F, word-O, word-B, word-C, word-D, word-E, word-F}
@@ -46,12 +42,15 @@ number-le w h =
     (λ l. omega (arith, number-E w l))
     (λ l. omega (arith, number-F w l))
 
--- a word is its entry's word with the rest of its fields added: below o where o alone chooses, and so on
-pub line : (w : ℕ) → w < 65536 → (numberOf w < 11 → wordOf (numberOf w) + w % 4096 ≡ w)
-    × (11 ≤ numberOf w → numberOf w < 34 → wordOf (numberOf w) + w % 4096 ≡ w + w % 16)
-    × (numberOf w ≡ 34 → wordOf (numberOf w) + w % 4096 ≡ w)
-    × (35 ≤ numberOf w → numberOf w < 39 → wordOf (numberOf w) + w % 1024 ≡ w)
-    × (numberOf w ≡ 39 → wordOf (numberOf w) + w % 4096 ≡ w)
+-- a word w that stands at n is the word of entry n with the rest of its fields added: below o, beside b, or below bits 11-10
+abbrev pub Line : ℕ → ℕ → Type 0
+Line w n =
+    (n < 11 → wordOf n + w % 4096 ≡ w) × (11 ≤ n → n < 34 → wordOf n + w % 4096 ≡ w + w % 16)
+    × (n ≡ 34 → wordOf n + w % 4096 ≡ w)
+    × (35 ≤ n → n < 39 → wordOf n + w % 1024 ≡ w)
+    × (n ≡ 39 → wordOf n + w % 4096 ≡ w)
+
+pub line : (w : ℕ) → w < 65536 → Line w (numberOf w)
 line w h =
     by-line w h
     (λ l. let e = number-O w l in omega (arith, e, word-O (numberOf w) (omega (arith, e))))
@@ -63,24 +62,55 @@ line w h =
     (λ l. let e = number-E w l in omega (arith, e, word-E (numberOf w) (omega (arith, e)) (omega (arith, e))))
     (λ l. let e = number-F w l in omega (arith, e, word-F (numberOf w) (omega (arith, e))))
 
--- and what is so added leaves a word in its entry
+-- and what is so added leaves a word at its entry
 module _ (n x : ℕ) where
   pub number-word-O : n < 11 → x < 4096 → numberOf (wordOf n + x) ≡ n
   number-word-O h l = let e = word-O n h in number-O (wordOf n + x) (omega (arith, e)) ∙ omega (arith, e)
 
-  pub number-word-B : 11 ≤ n → n < 22 → x < 4096 → x % 16 ≡ 0 → numberOf (wordOf n + x) ≡ n
-  number-word-B g h l z =
-      let e = word-B n g h in number-B (wordOf n + x) (omega (arith, e)) (omega (arith, e)) ∙ omega (arith, e)
+  pub number-word-BC : 11 ≤ n → n < 34 → x < 4096 → x % 16 ≡ 0 → numberOf (wordOf n + x) ≡ n
+  number-word-BC g h l z =
+      elim (decLt n 22) [
+        | yes m ↦ let e = word-B n g m in number-B (wordOf n + x) (omega (arith, e)) (omega (arith, e)) ∙ omega (arith, e)
+        | no m ↦
+            let e = word-C n (omega arith) h in number-C (wordOf n + x) (omega (arith, e)) (omega (arith, e)) ∙ omega (arith, e)
+      ]
 
-  pub number-word-C : 22 ≤ n → n < 34 → x < 4096 → x % 16 ≡ 0 → numberOf (wordOf n + x) ≡ n
-  number-word-C g h l z =
-      let e = word-C n g h in number-C (wordOf n + x) (omega (arith, e)) (omega (arith, e)) ∙ omega (arith, e)
-
-  pub number-word-D : 34 ≤ n → n < 35 → x < 4096 → numberOf (wordOf n + x) ≡ n
-  number-word-D g h l = let e = word-D n g h in number-D (wordOf n + x) (omega (arith, e)) ∙ omega arith
-
-  pub number-word-E : 35 ≤ n → n < 39 → x < 1024 → numberOf (wordOf n + x) ≡ n
-  number-word-E g h l = let e = word-E n g h in number-E (wordOf n + x) (omega (arith, e)) ∙ omega (arith, e)
+  pub number-word-DE : 34 ≤ n → n < 39 → x < 1024 → numberOf (wordOf n + x) ≡ n
+  number-word-DE g h l =
+      elim (decLt n 35) [
+        | yes m ↦ let e = word-D n g m in number-D (wordOf n + x) (omega (arith, e)) ∙ omega arith
+        | no m ↦ let e = word-E n (omega arith) h in number-E (wordOf n + x) (omega (arith, e)) ∙ omega (arith, e)
+      ]
 
   pub number-word-F : n ≡ 39 → x < 4096 → numberOf (wordOf n + x) ≡ n
   number-word-F g l = let e = word-F n (omega arith) in number-F (wordOf n + x) (omega (arith, e)) ∙ omega arith
+
+-- what the word of an entry has in its fields
+module _ (n : ℕ) where
+  pub word-le : wordOf n ≤ 0xF000
+  word-le =
+      elim (decLt n 11) [
+        | yes a ↦ omega (arith, word-O n a)
+        | no a ↦
+            elim (decLt n 22) [
+              | yes b ↦ omega (arith, word-B n (omega arith) b)
+              | no b ↦
+                  elim (decLt n 34) [
+                    | yes c ↦ omega (arith, word-C n (omega arith) c)
+                    | no c ↦
+                        elim (decLt n 35) [
+                          | yes d ↦ omega (arith, word-D n (omega arith) d)
+                          | no d ↦
+                              elim (decLt n 39) [ yes e ↦ omega (arith, word-E n (omega arith) e) | no e ↦ omega (arith, word-F n (omega arith)) ]
+                        ]
+                  ]
+            ]
+      ]
+
+  pub word-BC : 11 ≤ n → n < 34 → wordOf n % 4096 < 16
+  word-BC g h =
+      elim (decLt n 22) [ yes m ↦ omega (arith, word-B n g m) | no m ↦ omega (arith, word-C n (omega arith) h) ]
+
+  pub word-DE : 34 ≤ n → n < 39 → wordOf n % 1024 ≡ 0
+  word-DE g h =
+      elim (decLt n 35) [ yes m ↦ omega (arith, word-D n g m) | no m ↦ omega (arith, word-E n (omega arith) h) ]
