@@ -2,3 +2,4 @@
 pub mod Table
 pub mod Lines
 pub mod Entries
+pub mod Theorems

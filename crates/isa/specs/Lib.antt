@@ -3,3 +3,4 @@ pub mod Fields
 pub mod Table
 pub mod Control
 pub mod Cost
+pub mod Theorems

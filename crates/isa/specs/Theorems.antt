@@ -1,0 +1,33 @@
+-- What holds of the table as a whole: three statements, proved in proofs/Theorems.antt.
+use mathlib.Core.Path.{_≡_}
+use mathlib.Core.Logic.{_↔_, _⊎_}
+use mathlib.Core.Bool.{Bool}
+use Prim.Native.Nat.{ℕ, _+_, _*_, _≤_, _<_}
+use lib.Dec.{eqb}
+use lib.ListN.{getD}
+use Rattle.words.specs.Arithmetic.{bit}
+use Rattle.isa.specs.Fields.{fieldO, fieldB}
+use Rattle.isa.specs.Table.{table, numberOf, kindOf, entry}
+use Rattle.isa.specs.declared.Kind.{Kind}
+use Rattle.isa.specs.declared.Kind.the-variants.{Undefined}
+
+-- each instruction stands in the table where `entry` says
+abbrev pub EntryInTable : Type 0
+EntryInTable = (k : Kind) → getD table (entry k) Undefined ≡ k
+
+-- 'B with b from B to F and C with b from C to F are undefined', and no other word is
+abbrev pub UndefinedExactly : Type 0
+UndefinedExactly =
+    (w : ℕ) → w < 65536 → (kindOf w ≡ Undefined) ↔ (((fieldO w ≡ 11) × (11 ≤ fieldB w)) ⊎ ((fieldO w ≡ 12) × (12 ≤ fieldB w)))
+
+-- a sum over the sixteen digits, and how many words pass a test, over their four digits
+abbrev pub overDigits : (ℕ → ℕ) → ℕ
+overDigits f =
+    f 0 + f 1 + f 2 + f 3 + f 4 + f 5 + f 6 + f 7 + f 8 + f 9 + f 10 + f 11 + f 12 + f 13 + f 14 + f 15
+
+unfoldable pub howMany : (ℕ → Bool) → ℕ
+howMany test = overDigits λ o. overDigits λ t. overDigits λ a. overDigits λ b. bit (test (o * 4096 + t * 256 + a * 16 + b))
+
+-- 2,304 of the 65,536 words are undefined
+abbrev pub UndefinedCount : Type 0
+UndefinedCount = howMany (λ w. eqb (numberOf w) 40) ≡ 2304
