@@ -36,9 +36,9 @@ fn tally_defined(word: u16, back: WordAnswer) -> Counts
 fn tally(word: u16) -> Counts
     ensures { λ r. ⌜ (r .defined ≤ 1) × (r .undefined ≤ 1) × (r .unchanged ≤ 1) × (r .refused ≤ 1) ⌝ }
 {
-    let answer = forms::form_of(word);
+    let answer = forms::word_to_form(word);
     match answer {
-        FormAnswer::Read(form) => tally_defined(word, forms::word_from(form)),
+        FormAnswer::Read(form) => tally_defined(word, forms::form_to_word(form)),
         FormAnswer::Undefined => Counts {
             defined: 0,
             undefined: 1,

@@ -14,13 +14,13 @@ bit15 r = leb 32768 r
 abbrev pub silent : ℕ → Flags → Outcome
 silent r flags = record { value = r; flags = flags }
 
--- 'N (result bit 15) and Z (result zero)', C and V as they were
-abbrev pub setsNZ : ℕ → Flags → Outcome
-setsNZ r flags = record { value = r; flags = record { n = bit15 r; z = eqb r 0; c = flags .c; v = flags .v } }
-
--- all four, C and V as given
+-- a result that sets all four: 'N (result bit 15) and Z (result zero)', C and V as given
 abbrev pub setsAll : ℕ → Bool → Bool → Outcome
 setsAll r carry overflow = record { value = r; flags = record { n = bit15 r; z = eqb r 0; c = carry; v = overflow } }
+
+-- one that sets N and Z, with C and V as they were
+abbrev pub setsNZ : ℕ → Flags → Outcome
+setsNZ r flags = setsAll r (flags .c) (flags .v)
 
 -- from bits 15 of p, q and the result: 'V when the operands' bits 15 agree and the result's differs'
 abbrev pub sumOverflows : Bool → Bool → Bool → Bool

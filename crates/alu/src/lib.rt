@@ -19,21 +19,7 @@ fn top_bit(p: u16) -> bool
     32768 <= p
 }
 
-fn with_nz(value: u16, flags: Flags) -> Outcome
-    ensures { λ r. ⌜ r ≡ setsNZ value flags ⌝ }
-{
-    let after = Flags {
-        n: 32768 <= value,
-        z: value == 0,
-        c: flags.c,
-        v: flags.v,
-    };
-    Outcome {
-        value: value,
-        flags: after,
-    }
-}
-
+// A result that sets all flags, C and V as given.
 fn with_all(value: u16, carry: bool, overflow: bool) -> Outcome
     ensures { λ r. ⌜ r ≡ setsAll value carry overflow ⌝ }
 {
@@ -47,6 +33,13 @@ fn with_all(value: u16, carry: bool, overflow: bool) -> Outcome
         value: value,
         flags: after,
     }
+}
+
+// A result that sets N and Z and keeps C and V.
+fn with_nz(value: u16, flags: Flags) -> Outcome
+    ensures { λ r. ⌜ r ≡ setsNZ value flags ⌝ }
+{
+    with_all(value, flags.c, flags.v)
 }
 
 fn sum_overflows(p: bool, q: bool, r: bool) -> bool

@@ -21,15 +21,15 @@ use Rattle.forms.specs.declared.Form.{Form}
 use Rattle.forms.specs.declared.Operands.{Operands}
 use Rattle.forms.specs.Answers.{Answer, given, refused}
 use Rattle.forms.specs.Operands.{signed, unsigned, operandsOf, placed}
-use Rattle.forms.specs.Reading.{formWith, formOf}
-use Rattle.forms.specs.Writing.{written, wordFrom}
+use Rattle.forms.specs.Reading.{formWith, wordToForm}
+use Rattle.forms.specs.Writing.{written, formToWord}
 use Rattle.forms.specs.Theorems.{unusedBy, unused, FormWordForm, WordFormWord, Unchanged, Refused}
 use Rattle.forms.proofs.Faults.{Sound, writes, wrote}
 use Rattle.forms.proofs.Displacement.{bits10, bits12}
 
 -- a word that stands at a kind's entry is read by that kind
-read-as : (k : Kind) (w : ℕ) → numberOf w ≡ entry k → formOf w ≡ formWith k (operandsOf w)
-unfolding formOf
+read-as : (k : Kind) (w : ℕ) → numberOf w ≡ entry k → wordToForm w ≡ formWith k (operandsOf w)
+unfolding wordToForm
 read-as k w e = ap (λ (x : Kind). formWith x (operandsOf w)) (kind-by-number w k e)
 
 -- form to word to form, by the operands of a form and the lines of the table
@@ -37,12 +37,12 @@ module _ (k : Kind) (o : Operands) (w : ℕ) (e : written k o ≡ given w) (l : 
   adds : w ≡ wordOf (entry k) + placed o
   adds = omega (arith, wrote (entry k) o w e .1, word-le (entry k))
 
-  found : numberOf (wordOf (entry k) + placed o) ≡ entry k → formOf w ≡ formWith k (operandsOf w)
+  found : numberOf (wordOf (entry k) + placed o) ≡ entry k → wordToForm w ≡ formWith k (operandsOf w)
   found m = read-as k w (ap numberOf adds ∙ m)
 
 module _ (k : Kind) (w : ℕ) where
   tab : (t a b : ℕ) → entry k < 11 → written k (t, a, b, 0, pos 0, pos 0) ≡ given w
-      → (formOf w ≡ formWith k (operandsOf w)) × (fieldT w ≡ t) × (fieldA w ≡ a) × (fieldB w ≡ b)
+      → (wordToForm w ≡ formWith k (operandsOf w)) × (fieldT w ≡ t) × (fieldA w ≡ a) × (fieldB w ≡ b)
   unfolding placed
   tab t a b h e =
       let o : Operands = (t, a, b, 0, pos 0, pos 0) in
@@ -53,7 +53,7 @@ module _ (k : Kind) (w : ℕ) where
       (found k o w e l (number-word-O (entry k) (placed o) h l), omega (arith, s, v, n), omega (arith, s, v, n), omega (arith, s, v, n))
 
   tk : (t c : ℕ) → entry k < 11 → written k (t, 0, 0, c, pos 0, pos 0) ≡ given w
-      → (formOf w ≡ formWith k (operandsOf w)) × (fieldT w ≡ t) × (fieldK w ≡ c)
+      → (wordToForm w ≡ formWith k (operandsOf w)) × (fieldT w ≡ t) × (fieldK w ≡ c)
   unfolding placed
   tk t c h e =
       let o : Operands = (t, 0, 0, c, pos 0, pos 0) in
@@ -64,7 +64,7 @@ module _ (k : Kind) (w : ℕ) where
       (found k o w e l (number-word-O (entry k) (placed o) h l), omega (arith, s, v, n), omega (arith, s, v, n))
 
   ta : (t a : ℕ) → (11 ≤ entry k) × (entry k < 34) → written k (t, a, 0, 0, pos 0, pos 0) ≡ given w
-      → (formOf w ≡ formWith k (operandsOf w)) × (fieldT w ≡ t) × (fieldA w ≡ a)
+      → (wordToForm w ≡ formWith k (operandsOf w)) × (fieldT w ≡ t) × (fieldA w ≡ a)
   unfolding placed
   ta t a h e =
       let o : Operands = (t, a, 0, 0, pos 0, pos 0) in
@@ -75,7 +75,7 @@ module _ (k : Kind) (w : ℕ) where
       (found k o w e l (number-word-BC (entry k) (placed o) (h .0) (h .1) l (omega arith)), omega (arith, s, v, n), omega (arith, s, v, n))
 
   short : (d : ℤ) → (34 ≤ entry k) × (entry k < 39) → written k (0, 0, 0, 0, d, pos 0) ≡ given w
-      → (formOf w ≡ formWith k (operandsOf w)) × (signed (d10 w) ≡ d)
+      → (wordToForm w ≡ formWith k (operandsOf w)) × (signed (d10 w) ≡ d)
   unfolding placed
   short d h e =
       let o : Operands = (0, 0, 0, 0, d, pos 0) in
@@ -88,7 +88,7 @@ module _ (k : Kind) (w : ℕ) where
       )
 
   long : (d : ℤ) → entry k ≡ 39 → written k (0, 0, 0, 0, pos 0, d) ≡ given w
-      → (formOf w ≡ formWith k (operandsOf w)) × (signed (d12 w) ≡ d)
+      → (wordToForm w ≡ formWith k (operandsOf w)) × (signed (d12 w) ≡ d)
   unfolding placed
   long d h e =
       let o : Operands = (0, 0, 0, 0, pos 0, d) in
@@ -101,7 +101,7 @@ module _ (k : Kind) (w : ℕ) where
       )
 
 pub form-word-form : FormWordForm
-unfolding wordFrom operandsOf
+unfolding formToWord operandsOf
 form-word-form (Form.Binary op t a b) w e = let r = tab (Binary op) w t a b (binary-on-O op) e in r .0 ∙ rw (r .1, r .2, r .3)
 form-word-form (Form.Constant op t k) w e = let r = tk (Constant op) w t k (constant-on-O op) e in r .0 ∙ rw (r .1, r .2)
 form-word-form (Form.Ld t a b) w e = let r = tab Ld w t a b (lit< tt) e in r .0 ∙ rw (r .1, r .2, r .3)
@@ -149,52 +149,52 @@ quarters w = omega arith
 
 -- word to form to word, likewise: the operands that are read are sound, and the word of the entry with them is the word less
 -- its unused fields
-module _ (w : ℕ) (h : w < 65536) (f : Form) (e : formOf w ≡ given f) (k : Kind) (q : kindOf w ≡ k) (g : Form)
+module _ (w : ℕ) (h : w < 65536) (f : Form) (e : wordToForm w ≡ given f) (k : Kind) (q : kindOf w ≡ k) (g : Form)
     (r : formWith k (operandsOf w) ≡ given g) where
   Again : Type 0
-  Again = (wordFrom f ≡ given (w - unused w)) × (unused w ≤ w)
+  Again = (formToWord f ≡ given (w - unused w)) × (unused w ≤ w)
 
-  again : (o : Operands) → wordFrom g ≡ written k o → Sound o → wordOf (entry k) + placed o + unusedBy k w ≡ w → Again
-  unfolding formOf unused Again
+  again : (o : Operands) → formToWord g ≡ written k o → Sound o → wordOf (entry k) + placed o + unusedBy k w ≡ w → Again
+  unfolding wordToForm unused Again
   again o x s v =
       let p : f ≡ g = cc (ap (λ (y : Kind). formWith y (operandsOf w)) q) in
       let v′ = less (wordOf (entry k)) (placed o) (unusedBy k w) w h v in (
-        ap wordFrom p ∙ x ∙ writes (entry k) o s ∙ ap given (v′ ∙ ap (λ (y : Kind). w - unusedBy y w) (sym q)),
+        ap formToWord p ∙ x ∙ writes (entry k) o s ∙ ap given (v′ ∙ ap (λ (y : Kind). w - unusedBy y w) (sym q)),
         subst (λ (y : Kind). unusedBy y w ≤ w) (sym q) (omega (arith, v)),
       )
 
   on : Line w (entry k)
   on = line-of w h k q
 
-  tab-again : wordFrom g ≡ written k (fieldT w, fieldA w, fieldB w, 0, pos 0, pos 0) → entry k < 11 → unusedBy k w ≡ 0 → Again
+  tab-again : formToWord g ≡ written k (fieldT w, fieldA w, fieldB w, 0, pos 0, pos 0) → entry k < 11 → unusedBy k w ≡ 0 → Again
   unfolding placed
   tab-again x i u =
       again (fieldT w, fieldA w, fieldB w, 0, pos 0, pos 0) x (plain (fieldT w) (fieldA w) (fieldB w) 0 (omega arith))
       (omega (arith, on .0 i, digits w))
 
-  tk-again : wordFrom g ≡ written k (fieldT w, 0, 0, fieldK w, pos 0, pos 0) → entry k < 11 → unusedBy k w ≡ 0 → Again
+  tk-again : formToWord g ≡ written k (fieldT w, 0, 0, fieldK w, pos 0, pos 0) → entry k < 11 → unusedBy k w ≡ 0 → Again
   unfolding placed
   tk-again x i u =
       again (fieldT w, 0, 0, fieldK w, pos 0, pos 0) x (plain (fieldT w) 0 0 (fieldK w) (omega arith)) (omega (arith, on .0 i, bytes w))
 
   -- t and a are operands or, where they are unused, zero
-  ta-again : (t a : ℕ) → wordFrom g ≡ written k (t, a, 0, 0, pos 0, pos 0) → (t ≤ 15) × (a ≤ 15) → (11 ≤ entry k) × (entry k < 34)
+  ta-again : (t a : ℕ) → formToWord g ≡ written k (t, a, 0, 0, pos 0, pos 0) → (t ≤ 15) × (a ≤ 15) → (11 ≤ entry k) × (entry k < 34)
       → t * 256 + a * 16 + unusedBy k w ≡ fieldT w * 256 + fieldA w * 16 → Again
   unfolding placed
   ta-again t a x s i u =
       again (t, a, 0, 0, pos 0, pos 0) x (plain t a 0 0 (omega arith)) (omega (arith, on .1 (i .0) (i .1), u, digits w))
 
-  short-again : wordFrom g ≡ written k (0, 0, 0, 0, signed (d10 w), pos 0) → wordOf (entry k) + w % 1024 + unusedBy k w ≡ w → Again
+  short-again : formToWord g ≡ written k (0, 0, 0, 0, signed (d10 w), pos 0) → wordOf (entry k) + w % 1024 + unusedBy k w ≡ w → Again
   unfolding placed
   short-again x u =
       again (0, 0, 0, 0, signed (d10 w), pos 0) x
       (record { t = omega arith; a = omega arith; b = omega arith; k = omega arith; short = bits10 .stays (w % 1024) (omega arith); long = refl })
       (omega (arith, low10 w, u))
 
-  E-again : wordFrom g ≡ written k (0, 0, 0, 0, signed (d10 w), pos 0) → 35 ≤ entry k → entry k < 39 → unusedBy k w ≡ 0 → Again
+  E-again : formToWord g ≡ written k (0, 0, 0, 0, signed (d10 w), pos 0) → 35 ≤ entry k → entry k < 39 → unusedBy k w ≡ 0 → Again
   E-again x i j u = short-again x (omega (arith, on .3 i j, u))
 
-  long-again : wordFrom g ≡ written k (0, 0, 0, 0, pos 0, signed (d12 w)) → entry k ≡ 39 → unusedBy k w ≡ 0 → Again
+  long-again : formToWord g ≡ written k (0, 0, 0, 0, pos 0, signed (d12 w)) → entry k ≡ 39 → unusedBy k w ≡ 0 → Again
   unfolding placed
   long-again x i u =
       again (0, 0, 0, 0, pos 0, signed (d12 w)) x
@@ -204,11 +204,11 @@ module _ (w : ℕ) (h : w < 65536) (f : Form) (e : formOf w ≡ given f) (k : Ki
 never : {n : ℕ} {f : Form} → refused n ≡ given f → ⊥
 never e = let z : _≡_ {A = ℕ} 0 1 = cc e in omega arith
 
-read-again : (w : ℕ) → w < 65536 → (f : Form) → formOf w ≡ given f → (wordFrom f ≡ given (w - unused w)) × (unused w ≤ w)
-unfolding formOf wordFrom operandsOf Again
+read-again : (w : ℕ) → w < 65536 → (f : Form) → wordToForm w ≡ given f → (formToWord f ≡ given (w - unused w)) × (unused w ≤ w)
+unfolding wordToForm formToWord operandsOf Again
 read-again w h f e = go (kindOf w) refl
   where
-    go : (k : Kind) → kindOf w ≡ k → (wordFrom f ≡ given (w - unused w)) × (unused w ≤ w)
+    go : (k : Kind) → kindOf w ≡ k → (formToWord f ≡ given (w - unused w)) × (unused w ≤ w)
     go Undefined q = absurd (never (sym (ap (λ (y : Kind). formWith y (operandsOf w)) q) ∙ e))
     go (Binary op) q = tab-again w h f e (Binary op) q _ refl refl (binary-on-O op) refl
     go (Constant op) q = tk-again w h f e (Constant op) q _ refl refl (constant-on-O op) refl
@@ -264,6 +264,6 @@ only-undefined (Call Absolute) o n e = absurd (never (sym e))
 only-undefined (Call Displaced) o n e = absurd (never (sym e))
 
 pub refused-exactly : Refused
-unfolding formOf
+unfolding wordToForm
 refused-exactly w n =
     (only-undefined (kindOf w) (operandsOf w) n, λ p. ap (λ (y : Kind). formWith y (operandsOf w)) (p .0) ∙ ap refused (sym (p .1)))

@@ -30,5 +30,5 @@ formWith (Kind.Call Target.Absolute) o = given (Form.CallAbsolute (o .1))
 formWith (Kind.Call Target.Displaced) o = given (Form.CallDisplaced (o .5))
 
 -- what word to form answers
-unfoldable pub formOf : ℕ → Answer Form
-formOf w = formWith (kindOf w) (operandsOf w)
+unfoldable pub wordToForm : ℕ → Answer Form
+wordToForm w = formWith (kindOf w) (operandsOf w)

@@ -10,8 +10,8 @@ use Rattle.isa.specs.declared.Condition.the-variants.{Always, Negative, Zero, C
 use Rattle.isa.specs.declared.Target.the-variants.{Relative, Absolute, Displaced}
 use Rattle.forms.specs.declared.Form.{Form}
 use Rattle.forms.specs.Answers.{given, refused}
-use Rattle.forms.specs.Reading.{formOf}
-use Rattle.forms.specs.Writing.{wordFrom}
+use Rattle.forms.specs.Reading.{wordToForm}
+use Rattle.forms.specs.Writing.{formToWord}
 
 -- the fields that the table does not use for an instruction, as they stand in a word: t, a, or bits 11-10 of D
 abbrev pub unusedBy : Kind → ℕ → ℕ
@@ -43,16 +43,16 @@ unused w = unusedBy (kindOf w) w
 
 -- form to word to form is the identity on every form that has a word
 abbrev pub FormWordForm : Type 0
-FormWordForm = (f : Form) (w : ℕ) → wordFrom f ≡ given w → formOf w ≡ given f
+FormWordForm = (f : Form) (w : ℕ) → formToWord f ≡ given w → wordToForm w ≡ given f
 
 -- word to form to word is the word with its unused fields zero
 abbrev pub WordFormWord : Type 0
-WordFormWord = (w : ℕ) → w < 65536 → (f : Form) → formOf w ≡ given f → wordFrom f ≡ given (w - unused w)
+WordFormWord = (w : ℕ) → w < 65536 → (f : Form) → wordToForm w ≡ given f → formToWord f ≡ given (w - unused w)
 
 -- and is the word itself exactly where they are zero
 abbrev pub Unchanged : Type 0
-Unchanged = (w : ℕ) → w < 65536 → (f : Form) → formOf w ≡ given f → (wordFrom f ≡ given w) ↔ (unused w ≡ 0)
+Unchanged = (w : ℕ) → w < 65536 → (f : Form) → wordToForm w ≡ given f → (formToWord f ≡ given w) ↔ (unused w ≡ 0)
 
 -- a word is refused with 6 exactly where its kind is undefined, and with no other number
 abbrev pub Refused : Type 0
-Refused = (w n : ℕ) → (formOf w ≡ refused n) ↔ ((kindOf w ≡ Undefined) × (n ≡ 6))
+Refused = (w n : ℕ) → (wordToForm w ≡ refused n) ↔ ((kindOf w ≡ Undefined) × (n ≡ 6))

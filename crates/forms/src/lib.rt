@@ -3,8 +3,8 @@ ghost use mathlib.Core.Path.{_≡_};
 ghost use Prim.Native.Nat.{_%_};
 ghost use Rattle.forms.specs.Answers.{formAnswer, wordAnswer};
 ghost use Rattle.forms.specs.Operands.{signed, unsigned, operandsOf, outside, fault, placed};
-ghost use Rattle.forms.specs.Reading.{formWith, formOf};
-ghost use Rattle.forms.specs.Writing.{writtenAt, wordFrom};
+ghost use Rattle.forms.specs.Reading.{formWith, wordToForm};
+ghost use Rattle.forms.specs.Writing.{writtenAt, formToWord};
 ghost use Rattle.isa.specs.Table.{binaryEntry, constantEntry, unaryEntry, jumpEntry};
 ghost use Rattle.isa.specs.declared.Target.the-variants.{Relative, Absolute, Displaced};
 use isa::BinaryOp;
@@ -140,8 +140,8 @@ fn form_with(kind: Kind, o: Operands) -> FormAnswer
 }
 
 // Word to form: the form, or number 6.
-pub fn form_of(word: u16) -> FormAnswer
-    ensures { λ r. ⌜ formAnswer r ≡ formOf word ⌝ }
+pub fn word_to_form(word: u16) -> FormAnswer
+    ensures { λ r. ⌜ formAnswer r ≡ wordToForm word ⌝ }
 {
     form_with(isa::kind_of(word), operands_of(word))
 }
@@ -268,8 +268,8 @@ fn write(entry: u8, o: Operands) -> WordAnswer
 }
 
 // Form to word: the word, its unused fields zero, or number 5.
-pub fn word_from(form: Form) -> WordAnswer
-    ensures { λ r. ⌜ wordAnswer r ≡ wordFrom form ⌝ }
+pub fn form_to_word(form: Form) -> WordAnswer
+    ensures { λ r. ⌜ wordAnswer r ≡ formToWord form ⌝ }
 {
     match form {
         Form::Binary { op, t, a, b } => write(binary_entry(op), Operands(t, a, b, 0, 0, 0)),

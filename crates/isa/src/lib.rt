@@ -172,8 +172,8 @@ pub fn field_d12(word: u16) -> u16
 fn number_of(word: u16) -> u8
     ensures { λ r. ⌜ r ≡ numberOf word ⌝ }
 {
-    let o = (word / 4096) as u8;
-    let b = (word % 16) as u8;
+    let o = field_o(word);
+    let b = field_b(word);
     if o < 11 {
         return o;
     }

@@ -1,160 +1,121 @@
+-- `forms::form_with` meets its contract: by cases on the kind; a displacement goes through its bits. Assumes nothing.
 use native.Mathlib.Omega.{arith}
-use Rattle.forms.proofs.Signed.{same}
 use borrow.Author.Needs.{needs}
+use Rattle.forms.proofs.Signed.{same}
 use Rattle.forms.proofs.form_with.Statement.{statement}
 use Rattle.forms.proofs.form_with.Tie as tie
-use Rattle.forms.proofs.form_with.Reads as reads
-use Rattle.forms.proofs.form_with.Lts as lts
 
--- src/lib.rt:88:28
 enum-told : tie.Need-enum-told
 enum-told c = search needs
 
--- src/lib.rt:89:22
 enum-known-kind : tie.Need-enum-known-kind
 enum-known-kind c = search needs
 
--- src/lib.rt:95:24
 enum-known-kind-2 : tie.Need-enum-known-kind-2
 enum-known-kind-2 c = search needs
 
--- src/lib.rt:100:38
 enum-told-2 : tie.Need-enum-told-2
 enum-told-2 c = search needs
 
--- src/lib.rt:105:38
 enum-told-3 : tie.Need-enum-told-3
 enum-told-3 c = search needs
 
--- src/lib.rt:110:21
 enum-known-kind-3 : tie.Need-enum-known-kind-3
 enum-known-kind-3 c = search needs
 
--- src/lib.rt:115:39
 enum-told-4 : tie.Need-enum-told-4
 enum-told-4 c = search needs
 
--- src/lib.rt:116:40
 enum-told-5 : tie.Need-enum-told-5
 enum-told-5 c = search needs
 
--- src/lib.rt:117:40
 enum-told-6 : tie.Need-enum-told-6
 enum-told-6 c = search needs
 
--- src/lib.rt:118:39
 enum-told-7 : tie.Need-enum-told-7
 enum-told-7 c = search needs
 
--- src/lib.rt:119:39
 enum-told-8 : tie.Need-enum-told-8
 enum-told-8 c = search needs
 
--- src/lib.rt:120:40
 enum-told-9 : tie.Need-enum-told-9
 enum-told-9 c = search needs
 
--- src/lib.rt:121:20
 enum-known-kind-4 : tie.Need-enum-known-kind-4
 enum-known-kind-4 c = search needs
 
--- src/lib.rt:122:50
 enum-told-10 : tie.Need-enum-told-10
 enum-told-10 c = search needs
 
--- src/lib.rt:126:50
 enum-told-11 : tie.Need-enum-told-11
 enum-told-11 c = search needs
 
--- src/lib.rt:130:51
 enum-told-12 : tie.Need-enum-told-12
 enum-told-12 c = search needs
 
--- src/lib.rt:135:20
 enum-known-kind-5 : tie.Need-enum-known-kind-5
 enum-known-kind-5 c = search needs
 
--- src/lib.rt:136:50
 enum-told-13 : tie.Need-enum-told-13
 enum-told-13 c = search needs
 
--- src/lib.rt:137:50
 enum-told-14 : tie.Need-enum-told-14
 enum-told-14 c = search needs
 
--- src/lib.rt:138:51
 enum-told-15 : tie.Need-enum-told-15
 enum-told-15 c = search needs
 
--- src/lib.rt:84:1
 returns : tie.Need-returns
 returns c = search needs
 
--- src/lib.rt:84:1
 returns-2 : tie.Need-returns-2
 returns-2 c = rw (c .before .kind .given .1)
 
--- src/lib.rt:84:1
 returns-3 : tie.Need-returns-3
 returns-3 c = rw (c .before .kind2 .given .1)
 
--- src/lib.rt:84:1
 returns-4 : tie.Need-returns-4
 returns-4 c = rw (c .enum-told2 .given .1)
 
--- src/lib.rt:84:1
 returns-5 : tie.Need-returns-5
 returns-5 c = rw (c .enum-told3 .given .1)
 
--- src/lib.rt:84:1
 returns-6 : tie.Need-returns-6
 returns-6 c = rw (c .before .kind3 .given .1)
 
--- src/lib.rt:84:1
 returns-7 : tie.Need-returns-7
 returns-7 c = rw (c .enum-told4 .given .1)
 
--- src/lib.rt:84:1
 returns-8 : tie.Need-returns-8
 returns-8 c = rw (c .enum-told5 .given .1)
 
--- src/lib.rt:84:1
 returns-9 : tie.Need-returns-9
 returns-9 c = rw (c .enum-told6 .given .1)
 
--- src/lib.rt:84:1
 returns-10 : tie.Need-returns-10
 returns-10 c = rw (c .enum-told7 .given .1)
 
--- src/lib.rt:84:1
 returns-11 : tie.Need-returns-11
 returns-11 c = rw (c .enum-told8 .given .1)
 
--- src/lib.rt:84:1
 returns-12 : tie.Need-returns-12
 returns-12 c = rw (c .enum-told9 .given .1)
 
--- src/lib.rt:84:1
 returns-13 : tie.Need-returns-13
 returns-13 c = rw (c .before .before .before .kind4 .given .1, c .enum-told10 .given .1)
 
--- src/lib.rt:84:1
 returns-14 : tie.Need-returns-14
 returns-14 c = rw (c .before .before .before .kind4 .given .1, c .enum-told11 .given .1)
 
--- src/lib.rt:84:1
 returns-15 : tie.Need-returns-15
 returns-15 c = rw (same (c .before .before .before .before .before .before .args .o .4) (omega (arith, c .struct-told .given)), c .before .before .before .before .kind4 .given .1, c .before .enum-told12 .given .1)
 
--- src/lib.rt:84:1
 returns-16 : tie.Need-returns-16
 returns-16 c = rw (c .before .before .before .kind5 .given .1, c .enum-told13 .given .1)
 
--- src/lib.rt:84:1
 returns-17 : tie.Need-returns-17
 returns-17 c = rw (c .before .before .before .kind5 .given .1, c .enum-told14 .given .1)
 
--- src/lib.rt:84:1
 returns-18 : tie.Need-returns-18
 returns-18 c = rw (same (c .before .before .before .before .before .before .args .o .5) (omega (arith, c .struct-told2 .given)), c .before .before .before .before .kind5 .given .1, c .before .enum-told15 .given .1)
 

@@ -1,51 +1,41 @@
-use lib.IntN.{pos, negℤ}
+-- `forms::has_fault` meets its contract: by cases on the tests, in their order. Assumes nothing.
 use mathlib.Core.Bool.{true, false}
 use mathlib.Core.Path.{_≡_, _∙_, ap, sym}
-use borrow.Author.Tests.{lt-ltb, le-ltb}
 use native.Mathlib.Omega.{arith}
+use lib.IntN.{pos, negℤ}
+use borrow.Author.Needs.{needs}
+use borrow.Author.Tests.{lt-ltb, le-ltb}
 use Rattle.forms.specs.Operands.{outside, fault}
 use Rattle.forms.proofs.Signed.{same}
-use borrow.Author.Needs.{needs}
 use Rattle.forms.proofs.has_fault.Statement.{statement}
 use Rattle.forms.proofs.has_fault.Tie as tie
-use Rattle.forms.proofs.has_fault.Reads as reads
-use Rattle.forms.proofs.has_fault.Lts as lts
-use Rattle.forms.proofs.is_outside.Reads as is-outside-reads
 
--- src/lib.rt:227:9
 returns : tie.Need-returns
 unfolding fault
 returns c = rw (lt-ltb _ _ (c .if1 .taken))
 
--- src/lib.rt:230:9
 returns-2 : tie.Need-returns-2
 unfolding fault
 returns-2 c = rw (le-ltb _ _ (c .before .before .if1 .left), lt-ltb _ _ (c .if2 .taken))
 
--- src/lib.rt:233:9
 returns-3 : tie.Need-returns-3
 unfolding fault
 returns-3 c = rw (le-ltb _ _ (c .before .before .before .before .if1 .left), le-ltb _ _ (c .before .before .if2 .left), lt-ltb _ _ (c .if3 .taken))
 
--- src/lib.rt:236:9
 returns-4 : tie.Need-returns-4
 unfolding fault
 returns-4 c = rw (le-ltb _ _ (c .before .before .before .before .before .before .if1 .left), le-ltb _ _ (c .before .before .before .before .if2 .left), le-ltb _ _ (c .before .before .if3 .left), lt-ltb _ _ (c .if4 .taken))
 
--- src/lib.rt:238:8
 is-outside-requires : tie.Need-is-outside-requires
 is-outside-requires c κs = search needs
 
--- src/lib.rt:239:9
 returns-5 : tie.Need-returns-5
 unfolding fault
 returns-5 c = let e : outside (negℤ (pos 512)) (pos 511) (c .before .before .before .before .before .before .before .before .before .before .before .args .o .4) ≡ true = ap (outside (negℤ (pos 512)) (pos 511)) (sym (same (c .before .before .before .before .before .before .before .before .before .before .before .args .o .4) (omega (arith, c .before .before .struct-told .given)))) ∙ sym (c .before .is-outside .ensures) ∙ c .if5 .taken in rw (le-ltb _ _ (c .before .before .before .before .before .before .before .before .before .if1 .left), le-ltb _ _ (c .before .before .before .before .before .before .before .if2 .left), le-ltb _ _ (c .before .before .before .before .before .if3 .left), le-ltb _ _ (c .before .before .before .if4 .left), e)
 
--- src/lib.rt:241:5
 is-outside-requires-2 : tie.Need-is-outside-requires-2
 is-outside-requires-2 c κs = search needs
 
--- src/lib.rt:223:1
 returns-6 : tie.Need-returns-6
 unfolding fault
 returns-6 c = let e : outside (negℤ (pos 512)) (pos 511) (c .before .before .before .before .before .before .before .before .before .before .before .before .before .args .o .4) ≡ false = ap (outside (negℤ (pos 512)) (pos 511)) (sym (same (c .before .before .before .before .before .before .before .before .before .before .before .before .before .args .o .4) (omega (arith, c .before .before .before .before .struct-told .given)))) ∙ sym (c .before .before .before .is-outside .ensures) ∙ c .before .before .if5 .left in rw (le-ltb _ _ (c .before .before .before .before .before .before .before .before .before .before .before .if1 .left), le-ltb _ _ (c .before .before .before .before .before .before .before .before .before .if2 .left), le-ltb _ _ (c .before .before .before .before .before .before .before .if3 .left), le-ltb _ _ (c .before .before .before .before .before .if4 .left), e) (c .is-outside2 .ensures ∙ ap (outside (negℤ (pos 2048)) (pos 2047)) (same (c .before .before .before .before .before .before .before .before .before .before .before .before .before .args .o .5) (omega (arith, c .before .struct-told2 .given))))

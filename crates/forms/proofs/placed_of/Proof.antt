@@ -1,80 +1,59 @@
+-- `forms::placed_of` meets its contract: from what its callees ensure; a displacement goes through its bits. Assumes nothing.
 use native.Mathlib.Omega.{arith}
-use Prim.Native.Nat.{ℕ}
-use mathlib.Core.Path.{_≡_}
+use borrow.Author.Needs.{needs}
 use Rattle.forms.specs.Operands.{placed}
 use Rattle.forms.proofs.Signed.{same}
-use borrow.Author.Needs.{needs}
 use Rattle.forms.proofs.placed_of.Statement.{statement}
 use Rattle.forms.proofs.placed_of.Tie as tie
-use Rattle.forms.proofs.placed_of.Reads as reads
-use Rattle.forms.proofs.placed_of.Lts as lts
-use Rattle.forms.proofs.unsigned_of.Reads as unsigned-of-reads
 
--- src/lib.rt:248:15
 unsigned-of-requires : tie.Need-unsigned-of-requires
 unsigned-of-requires c κs = search needs
 
--- src/lib.rt:249:15
 unsigned-of-requires-2 : tie.Need-unsigned-of-requires-2
 unsigned-of-requires-2 c κs = search needs
 
--- src/lib.rt:250:15
 cast-sum : tie.Need-cast-sum
 cast-sum c = search needs
 
--- src/lib.rt:250:15
 mul-sum : tie.Need-mul-sum
 mul-sum c = search needs
 
--- src/lib.rt:251:11
 cast-sum-2 : tie.Need-cast-sum-2
 cast-sum-2 c = search needs
 
--- src/lib.rt:251:11
 mul-sum-2 : tie.Need-mul-sum-2
 mul-sum-2 c = search needs
 
--- src/lib.rt:250:15
 add-sum : tie.Need-add-sum
 add-sum c = search needs
 
--- src/lib.rt:252:11
 cast-sum-3 : tie.Need-cast-sum-3
 cast-sum-3 c = search needs
 
--- src/lib.rt:250:15
 add-sum-2 : tie.Need-add-sum-2
 add-sum-2 c = search needs
 
--- src/lib.rt:253:11
 cast-sum-4 : tie.Need-cast-sum-4
 cast-sum-4 c = search needs
 
--- src/lib.rt:250:15
 add-sum-3 : tie.Need-add-sum-3
 add-sum-3 c = search needs
 
--- src/lib.rt:254:11
 cast-sum-5 : tie.Need-cast-sum-5
 cast-sum-5 c = search needs
 
--- src/lib.rt:250:15
 add-sum-4 : tie.Need-add-sum-4
 add-sum-4 c = search needs
 
--- src/lib.rt:255:11
 cast-sum-6 : tie.Need-cast-sum-6
 cast-sum-6 c = search needs
 
--- src/lib.rt:250:15
 add-sum-5 : tie.Need-add-sum-5
 add-sum-5 c = search needs
 
--- src/lib.rt:256:5
 cast-result : tie.Need-cast-result
 cast-result c = search needs
 
--- src/lib.rt:245:1
 returns : tie.Need-returns
 unfolding placed
 returns c = rw (c .before .before .before .before .before .before .unsigned-of .ensures, c .before .before .before .before .unsigned-of2 .ensures, same (c .before .before .before .before .before .before .before .before .args .o .4) (omega (arith, c .before .before .before .before .before .before .before .struct-told .given)), same (c .before .before .before .before .before .before .before .before .args .o .5) (omega (arith, c .before .before .before .before .before .struct-told2 .given)))

@@ -1,133 +1,98 @@
-use Rattle.isa.specs.declared.Kind.{Kind}
-use Rattle.isa.specs.Cost.{jumpClass, classOf}
+-- `isa::class_of` meets its contract: only the arm of jumps asks more than to look at the kind. Assumes nothing.
 use mathlib.Core.Path.{_∙_, ap, sym}
-use mathlib.Core.Path.{_≡_}
-use Prim.Native.Nat.{ℕ}
 use borrow.Author.Needs.{needs}
+use Rattle.isa.specs.Cost.{jumpClass, classOf}
+use Rattle.isa.specs.declared.Kind.{Kind}
 use Rattle.isa.proofs.class_of.Statement.{statement}
 use Rattle.isa.proofs.class_of.Tie as tie
-use Rattle.isa.proofs.class_of.Reads as reads
-use Rattle.isa.proofs.class_of.Lts as lts
-use Rattle.isa.proofs.is_taken.Reads as is-taken-reads
-use Rattle.isa.proofs.jump_class.Reads as jump-class-reads
 
--- src/lib.rt:319:28
 enum-told : tie.Need-enum-told
 enum-told c = search needs
 
--- src/lib.rt:320:28
 enum-told-2 : tie.Need-enum-told-2
 enum-told-2 c = search needs
 
--- src/lib.rt:321:30
 enum-told-3 : tie.Need-enum-told-3
 enum-told-3 c = search needs
 
--- src/lib.rt:322:21
 enum-told-4 : tie.Need-enum-told-4
 enum-told-4 c = search needs
 
--- src/lib.rt:323:21
 enum-told-5 : tie.Need-enum-told-5
 enum-told-5 c = search needs
 
--- src/lib.rt:324:27
 enum-told-6 : tie.Need-enum-told-6
 enum-told-6 c = search needs
 
--- src/lib.rt:325:22
 enum-told-7 : tie.Need-enum-told-7
 enum-told-7 c = search needs
 
--- src/lib.rt:326:23
 enum-told-8 : tie.Need-enum-told-8
 enum-told-8 c = search needs
 
--- src/lib.rt:327:23
 enum-told-9 : tie.Need-enum-told-9
 enum-told-9 c = search needs
 
--- src/lib.rt:328:22
 enum-told-10 : tie.Need-enum-told-10
 enum-told-10 c = search needs
 
--- src/lib.rt:329:22
 enum-told-11 : tie.Need-enum-told-11
 enum-told-11 c = search needs
 
--- src/lib.rt:330:23
 enum-told-12 : tie.Need-enum-told-12
 enum-told-12 c = search needs
 
--- src/lib.rt:331:20
 enum-known-kind : tie.Need-enum-known-kind
 enum-known-kind c = search needs
 
--- src/lib.rt:331:48
 is-taken-requires : tie.Need-is-taken-requires
 is-taken-requires c κs = search needs
 
--- src/lib.rt:331:37
 jump-class-requires : tie.Need-jump-class-requires
 jump-class-requires c κs = search needs
 
--- src/lib.rt:332:26
 enum-told-13 : tie.Need-enum-told-13
 enum-told-13 c = search needs
 
--- src/lib.rt:315:1
 returns : tie.Need-returns
 returns c = search needs
 
--- src/lib.rt:315:1
 returns-2 : tie.Need-returns-2
 returns-2 c = search needs
 
--- src/lib.rt:315:1
 returns-3 : tie.Need-returns-3
 returns-3 c = search needs
 
--- src/lib.rt:315:1
 returns-4 : tie.Need-returns-4
 returns-4 c = search needs
 
--- src/lib.rt:315:1
 returns-5 : tie.Need-returns-5
 returns-5 c = search needs
 
--- src/lib.rt:315:1
 returns-6 : tie.Need-returns-6
 returns-6 c = search needs
 
--- src/lib.rt:315:1
 returns-7 : tie.Need-returns-7
 returns-7 c = search needs
 
--- src/lib.rt:315:1
 returns-8 : tie.Need-returns-8
 returns-8 c = search needs
 
--- src/lib.rt:315:1
 returns-9 : tie.Need-returns-9
 returns-9 c = search needs
 
--- src/lib.rt:315:1
 returns-10 : tie.Need-returns-10
 returns-10 c = search needs
 
--- src/lib.rt:315:1
 returns-11 : tie.Need-returns-11
 returns-11 c = search needs
 
--- src/lib.rt:315:1
 returns-12 : tie.Need-returns-12
 returns-12 c = search needs
 
--- src/lib.rt:315:1
 returns-13 : tie.Need-returns-13
 returns-13 c = c .jump-class .ensures ∙ ap jumpClass (c .before .is-taken .ensures) ∙ sym (ap (λ (k : Kind). classOf k (c .before .before .before .before .before .args .flags)) (c .before .before .before .kind .given .1))
 
--- src/lib.rt:315:1
 returns-14 : tie.Need-returns-14
 returns-14 c = search needs
 

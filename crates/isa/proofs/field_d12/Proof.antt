@@ -1,19 +1,15 @@
-use borrow.Author.Tests.{lt-ltb, le-ltb}
+-- `isa::field_d12` meets its contract: by cases on the sign bit. Assumes nothing.
 use borrow.Author.Needs.{needs}
+use borrow.Author.Tests.{lt-ltb, le-ltb}
 use Rattle.isa.proofs.field_d12.Statement.{statement}
 use Rattle.isa.proofs.field_d12.Tie as tie
-use Rattle.isa.proofs.field_d12.Reads as reads
-use Rattle.isa.proofs.field_d12.Lts as lts
 
--- src/lib.rt:161:30
 add-result : tie.Need-add-result
 add-result c = search needs
 
--- src/lib.rt:157:1
 returns : tie.Need-returns
 returns c = simp (lt-ltb _ _ (c .if1 .taken))
 
--- src/lib.rt:157:1
 returns-2 : tie.Need-returns-2
 returns-2 c = simp (le-ltb _ _ (c .if1 .left))
 

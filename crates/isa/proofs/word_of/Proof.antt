@@ -1,52 +1,40 @@
-use Rattle.isa.proofs.Table.{word-O, word-B, word-C, word-D, word-E, word-F}
+-- `isa::word_of` meets its contract: a law of the table's lines for each return. Assumes nothing.
 use mathlib.Core.Path.{sym}
 use borrow.Author.Needs.{needs}
+use Rattle.isa.proofs.Table.{word-O, word-B, word-C, word-D, word-E, word-F}
 use Rattle.isa.proofs.word_of.Statement.{statement}
 use Rattle.isa.proofs.word_of.Tie as tie
-use Rattle.isa.proofs.word_of.Reads as reads
-use Rattle.isa.proofs.word_of.Lts as lts
 
--- src/lib.rt:202:16
 mul-result : tie.Need-mul-result
 mul-result c = search needs
 
--- src/lib.rt:202:9
 returns : tie.Need-returns
 returns c = sym (word-O _ (c .if1 .taken))
 
--- src/lib.rt:205:16
 add-result : tie.Need-add-result
 add-result c = search needs
 
--- src/lib.rt:205:9
 returns-2 : tie.Need-returns-2
 returns-2 c = sym (word-B _ (c .before .if1 .left) (c .if2 .taken))
 
--- src/lib.rt:208:16
 add-result-2 : tie.Need-add-result-2
 add-result-2 c = search needs
 
--- src/lib.rt:208:9
 returns-3 : tie.Need-returns-3
 returns-3 c = sym (word-C _ (c .before .if2 .left) (c .if3 .taken))
 
--- src/lib.rt:211:9
 returns-4 : tie.Need-returns-4
 returns-4 c = sym (word-D _ (c .before .if3 .left) (c .if4 .taken))
 
--- src/lib.rt:214:25
 mul-result-2 : tie.Need-mul-result-2
 mul-result-2 c = search needs
 
--- src/lib.rt:214:16
 add-result-3 : tie.Need-add-result-3
 add-result-3 c = search needs
 
--- src/lib.rt:214:9
 returns-5 : tie.Need-returns-5
 returns-5 c = sym (word-E _ (c .before .if4 .left) (c .if5 .taken))
 
--- src/lib.rt:197:1
 returns-6 : tie.Need-returns-6
 returns-6 c = sym (word-F _ (c .if5 .left))
 

@@ -1,24 +1,19 @@
+-- `words::read` meets its contract: past the end `getD` gives its default, 0. Assumes nothing.
 use mathlib.Core.Path.{sym}
 use lib.ListN.{List·getD-eq-default}
 use borrow.Author.Needs.{needs}
 use Rattle.words.proofs.read.Statement.{statement}
 use Rattle.words.proofs.read.Tie as tie
-use Rattle.words.proofs.read.Reads as reads
-use Rattle.words.proofs.read.Lts as lts
 
--- src/lib.rt:12:27
 mul-result : tie.Need-mul-result
 mul-result c = search needs
 
--- src/lib.rt:12:27
 shared-slice-read-result : tie.Need-shared-slice-read-result
 shared-slice-read-result c = search needs
 
--- src/lib.rt:8:1
 returns : tie.Need-returns
 returns c = search needs
 
--- src/lib.rt:8:1
 returns-2 : tie.Need-returns-2
 returns-2 c = sym (List·getD-eq-default (c .before .args .memory .now) 0 (c .if1 .left))
 

@@ -1,23 +1,18 @@
+-- `words::shift_left` meets its contract: by cases on the bit that enters. Assumes nothing.
 use native.Mathlib.Omega.{arith}
 use borrow.Author.Needs.{needs}
 use Rattle.words.proofs.shift_left.Statement.{statement}
 use Rattle.words.proofs.shift_left.Tie as tie
-use Rattle.words.proofs.shift_left.Reads as reads
-use Rattle.words.proofs.shift_left.Lts as lts
 
--- src/lib.rt:65:17
 mul-moved : tie.Need-mul-moved
 mul-moved c = search needs
 
--- src/lib.rt:66:17
 add-result : tie.Need-add-result
 add-result c = search needs
 
--- src/lib.rt:62:1
 returns : tie.Need-returns
 returns c = rw (c .if1 .taken) (omega arith)
 
--- src/lib.rt:62:1
 returns-2 : tie.Need-returns-2
 returns-2 c = rw (c .if1 .left) (omega arith)
 
