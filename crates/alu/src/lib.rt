@@ -1,4 +1,4 @@
-// Arithmetic with flags: what ADD to NOT give, value and N, Z, C, V.
+// Arithmetic with flags: what o 0 to 8 and SL0 to NOT give, value and N, Z, C, V.
 ghost use mathlib.Core.Path.{_≡_};
 ghost use Rattle.alu.specs.Flags.{bit15, setsNZ, setsAll, sumOverflows, differenceOverflows, added, subtracted};
 ghost use Rattle.alu.specs.Results.{binaryResult, constantResult, unaryResult};

@@ -13,7 +13,7 @@ use mir.ValLaws.{toZ-pos, toZ-neg, toZ-ofZ, ofZ-toZ}
 use borrow.Author.Tests.{lt-ltb, le-ltb, ltb-false}
 use Rattle.isa.specs.Fields.{extended}
 use Rattle.forms.specs.Operands.{signed, unsigned, outside}
-use Rattle.forms.proofs.Faults.{or-false}
+use Rattle.forms.proofs.Faults.{both-false}
 
 -- what is shown at one width
 pub record Laws (half top full : ℕ) : Type 0 where
@@ -30,7 +30,7 @@ module _ (half top full : ℕ) (is-top : half ≡ suc top) (is-full : full ≡ 2
     (low-high : (v : ℕ) → v < full → (v + (65536 - 2 * half)) % full ≡ v) where
   inside : (d : ℤ) → outside (negsuc top) (pos top) d ≡ false → mag d < half
   inside (pos n) e = omega (arith, ltb-false top n e)
-  inside (negsuc n) e = omega (arith, ltb-false top n (or-false (ltb top n) false e .0))
+  inside (negsuc n) e = omega (arith, ltb-false top n (both-false (ltb top n) false e .0))
 
   -- a number inside, cut to its low bits, comes back by sign extension
   back : (d : ℤ) → mag d < half → signed (extended half (unsigned d % full)) ≡ d

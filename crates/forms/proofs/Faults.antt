@@ -1,5 +1,6 @@
 -- What number 5 leaves of operands, and what form to word answers of them. Assumes nothing.
-use mathlib.Core.Path.{_≡_, refl}
+use mathlib.Core.Path.{_≡_, refl, sym}
+use mathlib.Core.Logic.{_↔_}
 use mathlib.Core.Bool.{Bool, true, false, _||_, true≢false}
 use Prim.Native.Nat.{ℕ, _≤_}
 use native.Mathlib.Omega.{arith}
@@ -13,9 +14,9 @@ use Rattle.forms.specs.Answers.{Answer, given, refused}
 use Rattle.forms.specs.Operands.{outside, fault, placed}
 use Rattle.forms.specs.Writing.{writtenAt}
 
-pub or-false : (a b : Bool) → (a || b) ≡ false → (a ≡ false) × (b ≡ false)
-or-false true b e = absurd (true≢false e)
-or-false false b e = (refl, e)
+pub both-false : (a b : Bool) → (a || b) ≡ false → (a ≡ false) × (b ≡ false)
+both-false true b e = absurd (true≢false e)
+both-false false b e = (refl, e)
 
 -- operands in range
 pub record Sound (o : Operands) : Type 0 where
@@ -35,11 +36,11 @@ no-fault o s =
 pub sound : (o : Operands) → fault o ≡ false → Sound o
 unfolding fault
 sound o e =
-    let e₁ = or-false _ _ e in
-    let e₂ = or-false _ _ (e₁ .1) in
-    let e₃ = or-false _ _ (e₂ .1) in
-    let e₄ = or-false _ _ (e₃ .1) in
-    let e₅ = or-false _ _ (e₄ .1) in
+    let e₁ = both-false _ _ e in
+    let e₂ = both-false _ _ (e₁ .1) in
+    let e₃ = both-false _ _ (e₂ .1) in
+    let e₄ = both-false _ _ (e₃ .1) in
+    let e₅ = both-false _ _ (e₄ .1) in
     record {
       t = ltb-false 15 (o .0) (e₁ .0);
       a = ltb-false 15 (o .1) (e₂ .0);
@@ -61,3 +62,11 @@ wrote n o w e = by (fault o) refl
     by : (b : Bool) → fault o ≡ b → Sound o × (sum (wordOf n) (placed o) ≡ w)
     by true f = let e′ : _≡_ {A = Answer ℕ} (refused 5) (given w) = rw f at e in absurd (let z : _≡_ {A = ℕ} 0 1 = cc e′ in omega arith)
     by false f = let e′ : given (sum (wordOf n) (placed o)) ≡ given w = rw f at e in (sound o f, cc e′)
+
+pub refuses : (n : ℕ) (x : Operands) (m : ℕ) (b : Bool) → fault x ≡ b → (writtenAt n x ≡ refused m) ↔ ((b ≡ true) × (m ≡ 5))
+unfolding writtenAt
+refuses n x m true f = (λ e. (refl, let e′ : _≡_ {A = Answer ℕ} (refused 5) (refused m) = rw f at e in cc e′), λ p. rw (f, p .1))
+refuses n x m false f = (
+  λ e. absurd (let e′ : given (sum (wordOf n) (placed x)) ≡ refused m = rw f at e in let z : _≡_ {A = ℕ} 0 1 = cc e′ in omega arith),
+  λ p. absurd (true≢false (sym (p .0))),
+)

@@ -1,5 +1,6 @@
 -- The theorems of specs/Theorems.antt. Assumes nothing.
 use mathlib.Core.Path.{_≡_, refl, sym, ap, subst, _∙_}
+use mathlib.Core.Bool.{or-false}
 use Prim.Native.Nat.{ℕ, _+_, _-_, _*_, _/_, _%_, _≤_, _<_}
 use native.Mathlib.Omega.{arith}
 use lib.Dec.{lit<, lit≤}
@@ -7,38 +8,38 @@ use lib.IntN.{ℤ, pos}
 use mir.Syntax.{w16}
 use mir.ValLaws.{ofZ-toZ}
 use Rattle.words.specs.Arithmetic.{sum}
-use Rattle.isa.specs.Fields.{fieldT, fieldA, fieldB, fieldE, fieldK, extended, d10, d12}
-use Rattle.isa.specs.Table.{numberOf, kindOf, entry, wordOf}
+use Rattle.isa.specs.Fields.{fieldT, fieldA, fieldB, bits11to10, fieldK, extended, d10, d12}
+use Rattle.isa.specs.Table.{placeOf, kindOf, entry, wordOf}
 use Rattle.isa.specs.declared.Kind.{Kind}
 use Rattle.isa.specs.declared.Kind.the-variants.{Undefined, Binary, Constant, Ld, St, Unary, Nop, Halt, Ldsp, Rts, Pop, Push, Jump, Call}
 use Rattle.isa.specs.declared.Condition.{Condition}
 use Rattle.isa.specs.declared.Condition.the-variants.{Always, Negative, Zero, Carry, Overflow}
 use Rattle.isa.specs.declared.Target.the-variants.{Relative, Absolute, Displaced}
-use Rattle.isa.proofs.Lines.{Line, number-word-O, number-word-BC, number-word-DE, number-word-F, word-le, word-BC, word-DE}
+use Rattle.isa.proofs.Lines.{Line, place-word-O, place-word-BC, place-word-DE, place-word-F, word-le, word-BC, word-DE}
 use Rattle.isa.proofs.Table.{word-O, word-F}
-use Rattle.isa.proofs.Entries.{kind-by-number, binary-on-O, constant-on-O, unary-on-B, jump-on, line-of}
+use Rattle.isa.proofs.Entries.{kind-by-place, binary-on-O, constant-on-O, unary-on-B, jump-on, line-of}
 use Rattle.forms.specs.declared.Form.{Form}
 use Rattle.forms.specs.declared.Operands.{Operands}
 use Rattle.forms.specs.Answers.{Answer, given, refused}
-use Rattle.forms.specs.Operands.{signed, unsigned, operandsOf, placed}
+use Rattle.forms.specs.Operands.{signed, unsigned, operandsOf, fault, placed}
 use Rattle.forms.specs.Reading.{formWith, wordToForm}
 use Rattle.forms.specs.Writing.{written, formToWord}
-use Rattle.forms.specs.Theorems.{unusedBy, unused, FormWordForm, WordFormWord, Unchanged, Refused}
-use Rattle.forms.proofs.Faults.{Sound, writes, wrote}
+use Rattle.forms.specs.Theorems.{unusedBy, unused, FormWordForm, WordFormWord, Unchanged, RefusedWord, outOfRange, RefusedForm}
+use Rattle.forms.proofs.Faults.{Sound, writes, wrote, refuses}
 use Rattle.forms.proofs.Displacement.{bits10, bits12}
 
 -- a word that stands at a kind's entry is read by that kind
-read-as : (k : Kind) (w : ℕ) → numberOf w ≡ entry k → wordToForm w ≡ formWith k (operandsOf w)
+read-as : (k : Kind) (w : ℕ) → placeOf w ≡ entry k → wordToForm w ≡ formWith k (operandsOf w)
 unfolding wordToForm
-read-as k w e = ap (λ (x : Kind). formWith x (operandsOf w)) (kind-by-number w k e)
+read-as k w e = ap (λ (x : Kind). formWith x (operandsOf w)) (kind-by-place w k e)
 
 -- form to word to form, by the operands of a form and the lines of the table
 module _ (k : Kind) (o : Operands) (w : ℕ) (e : written k o ≡ given w) (l : placed o < 4096) where
   adds : w ≡ wordOf (entry k) + placed o
   adds = omega (arith, wrote (entry k) o w e .1, word-le (entry k))
 
-  found : numberOf (wordOf (entry k) + placed o) ≡ entry k → wordToForm w ≡ formWith k (operandsOf w)
-  found m = read-as k w (ap numberOf adds ∙ m)
+  found : placeOf (wordOf (entry k) + placed o) ≡ entry k → wordToForm w ≡ formWith k (operandsOf w)
+  found m = read-as k w (ap placeOf adds ∙ m)
 
 module _ (k : Kind) (w : ℕ) where
   tab : (t a b : ℕ) → entry k < 11 → written k (t, a, b, 0, pos 0, pos 0) ≡ given w
@@ -50,7 +51,7 @@ module _ (k : Kind) (w : ℕ) where
       let l : placed o < 4096 = omega (arith, s) in
       let v = adds k o w e l in
       let n = word-O (entry k) h in
-      (found k o w e l (number-word-O (entry k) (placed o) h l), omega (arith, s, v, n), omega (arith, s, v, n), omega (arith, s, v, n))
+      (found k o w e l (place-word-O (entry k) (placed o) h l), omega (arith, s, v, n), omega (arith, s, v, n), omega (arith, s, v, n))
 
   tk : (t c : ℕ) → entry k < 11 → written k (t, 0, 0, c, pos 0, pos 0) ≡ given w
       → (wordToForm w ≡ formWith k (operandsOf w)) × (fieldT w ≡ t) × (fieldK w ≡ c)
@@ -61,7 +62,7 @@ module _ (k : Kind) (w : ℕ) where
       let l : placed o < 4096 = omega (arith, s) in
       let v = adds k o w e l in
       let n = word-O (entry k) h in
-      (found k o w e l (number-word-O (entry k) (placed o) h l), omega (arith, s, v, n), omega (arith, s, v, n))
+      (found k o w e l (place-word-O (entry k) (placed o) h l), omega (arith, s, v, n), omega (arith, s, v, n))
 
   ta : (t a : ℕ) → (11 ≤ entry k) × (entry k < 34) → written k (t, a, 0, 0, pos 0, pos 0) ≡ given w
       → (wordToForm w ≡ formWith k (operandsOf w)) × (fieldT w ≡ t) × (fieldA w ≡ a)
@@ -72,7 +73,7 @@ module _ (k : Kind) (w : ℕ) where
       let l : placed o < 4096 = omega (arith, s) in
       let v = adds k o w e l in
       let n = word-BC (entry k) (h .0) (h .1) in
-      (found k o w e l (number-word-BC (entry k) (placed o) (h .0) (h .1) l (omega arith)), omega (arith, s, v, n), omega (arith, s, v, n))
+      (found k o w e l (place-word-BC (entry k) (placed o) (h .0) (h .1) l (omega arith)), omega (arith, s, v, n), omega (arith, s, v, n))
 
   short : (d : ℤ) → (34 ≤ entry k) × (entry k < 39) → written k (0, 0, 0, 0, d, pos 0) ≡ given w
       → (wordToForm w ≡ formWith k (operandsOf w)) × (signed (d10 w) ≡ d)
@@ -83,7 +84,7 @@ module _ (k : Kind) (w : ℕ) where
       let l : placed o < 4096 = omega arith in
       let v = adds k o w e l in
       let r : w % 1024 ≡ unsigned d % 1024 = omega (arith, v, word-DE (entry k) (h .0) (h .1)) in (
-        found k o w e l (number-word-DE (entry k) (placed o) (h .0) (h .1) (omega arith)),
+        found k o w e l (place-word-DE (entry k) (placed o) (h .0) (h .1) (omega arith)),
         ap (λ (x : ℕ). signed (extended 512 x)) r ∙ bits10 .back d (bits10 .inside d (s .short)),
       )
 
@@ -96,7 +97,7 @@ module _ (k : Kind) (w : ℕ) where
       let l : placed o < 4096 = omega arith in
       let v = adds k o w e l in
       let r : w % 4096 ≡ unsigned d % 4096 = omega (arith, v, word-F (entry k) (omega arith)) in (
-        found k o w e l (number-word-F (entry k) (placed o) h l),
+        found k o w e l (place-word-F (entry k) (placed o) h l),
         ap (λ (x : ℕ). signed (extended 2048 x)) r ∙ bits12 .back d (bits12 .inside d (s .long)),
       )
 
@@ -113,11 +114,11 @@ form-word-form (Form.Ldsp a) w e = let r = ta Ldsp w 0 a (omega arith) e in r .0
 form-word-form Form.Rts w e = ta Rts w 0 0 (omega arith) e .0
 form-word-form (Form.Pop t) w e = let r = ta Pop w t 0 (omega arith) e in r .0 ∙ rw (r .1)
 form-word-form (Form.Push t) w e = let r = ta Push w t 0 (omega arith) e in r .0 ∙ rw (r .1)
-form-word-form (Form.JumpRelative c a) w e = let r = ta (Jump c Relative) w 0 a (omega (arith, jump-on Relative c)) e in r .0 ∙ rw (r .2)
-form-word-form (Form.JumpAbsolute c a) w e = let r = ta (Jump c Absolute) w 0 a (omega (arith, jump-on Absolute c)) e in r .0 ∙ rw (r .2)
+form-word-form (Form.JumpRelative c a) w e = let r = ta (Jump c Relative) w 0 a (omega (arith, jump-on c Relative)) e in r .0 ∙ rw (r .2)
+form-word-form (Form.JumpAbsolute c a) w e = let r = ta (Jump c Absolute) w 0 a (omega (arith, jump-on c Absolute)) e in r .0 ∙ rw (r .2)
 form-word-form (Form.CallRelative a) w e = let r = ta (Call Relative) w 0 a (omega arith) e in r .0 ∙ rw (r .2)
 form-word-form (Form.CallAbsolute a) w e = let r = ta (Call Absolute) w 0 a (omega arith) e in r .0 ∙ rw (r .2)
-form-word-form (Form.JumpDisplaced c d) w e = let r = short (Jump c Displaced) w d (omega (arith, jump-on Displaced c)) e in r .0 ∙ ap (λ (x : ℤ). given (Form.JumpDisplaced c x)) (r .1)
+form-word-form (Form.JumpDisplaced c d) w e = let r = short (Jump c Displaced) w d (omega (arith, jump-on c Displaced)) e in r .0 ∙ ap (λ (x : ℤ). given (Form.JumpDisplaced c x)) (r .1)
 form-word-form (Form.CallDisplaced d) w e = let r = long (Call Displaced) w d refl e in r .0 ∙ ap (λ (x : ℤ). given (Form.CallDisplaced x)) (r .1)
 
 plain : (t a b c : ℕ) → (t ≤ 15) × (a ≤ 15) × (b ≤ 15) × (c ≤ 255) → Sound (t, a, b, c, pos 0, pos 0)
@@ -144,7 +145,7 @@ digits w = omega arith
 bytes : (w : ℕ) → w % 4096 ≡ fieldT w * 256 + fieldK w
 bytes w = omega arith
 
-quarters : (w : ℕ) → w % 4096 ≡ fieldE w * 1024 + w % 1024
+quarters : (w : ℕ) → w % 4096 ≡ bits11to10 w * 1024 + w % 1024
 quarters w = omega arith
 
 -- word to form to word, likewise: the operands that are read are sound, and the word of the entry with them is the word less
@@ -222,9 +223,9 @@ read-again w h f e = go (kindOf w) refl
     go Pop q = ta-again w h f e Pop q _ refl (fieldT w) 0 refl (omega arith) (omega arith) (omega arith)
     go Push q = ta-again w h f e Push q _ refl (fieldT w) 0 refl (omega arith) (omega arith) (omega arith)
     go (Jump c Relative) q =
-        ta-again w h f e (Jump c Relative) q _ refl 0 (fieldA w) refl (omega arith) (omega (arith, jump-on Relative c)) (omega arith)
+        ta-again w h f e (Jump c Relative) q _ refl 0 (fieldA w) refl (omega arith) (omega (arith, jump-on c Relative)) (omega arith)
     go (Jump c Absolute) q =
-        ta-again w h f e (Jump c Absolute) q _ refl 0 (fieldA w) refl (omega arith) (omega (arith, jump-on Absolute c)) (omega arith)
+        ta-again w h f e (Jump c Absolute) q _ refl 0 (fieldA w) refl (omega arith) (omega (arith, jump-on c Absolute)) (omega arith)
     go (Jump Always Displaced) q =
         short-again w h f e (Jump Always Displaced) q _ refl refl (omega (arith, line-of w h (Jump Always Displaced) q .2 refl, quarters w))
     go (Jump Negative Displaced) q = E-again w h f e (Jump Negative Displaced) q _ refl refl (lit≤ tt) (lit< tt) refl
@@ -263,7 +264,27 @@ only-undefined (Call Relative) o n e = absurd (never (sym e))
 only-undefined (Call Absolute) o n e = absurd (never (sym e))
 only-undefined (Call Displaced) o n e = absurd (never (sym e))
 
-pub refused-exactly : Refused
+pub refused-word : RefusedWord
 unfolding wordToForm
-refused-exactly w n =
+refused-word w n =
     (only-undefined (kindOf w) (operandsOf w) n, λ p. ap (λ (y : Kind). formWith y (operandsOf w)) (p .0) ∙ ap refused (sym (p .1)))
+
+pub refused-form : RefusedForm
+unfolding formToWord fault
+refused-form (Form.Binary op t a b) n = refuses (entry (Binary op)) (t, a, b, 0, pos 0, pos 0) n _ (simp or-false)
+refused-form (Form.Constant op t k) n = refuses (entry (Constant op)) (t, 0, 0, k, pos 0, pos 0) n _ (simp or-false)
+refused-form (Form.Ld t a b) n = refuses 9 (t, a, b, 0, pos 0, pos 0) n _ (simp or-false)
+refused-form (Form.St t a b) n = refuses 10 (t, a, b, 0, pos 0, pos 0) n _ (simp or-false)
+refused-form (Form.Unary op t a) n = refuses (entry (Unary op)) (t, a, 0, 0, pos 0, pos 0) n _ (simp or-false)
+refused-form Form.Nop n = refuses 16 (0, 0, 0, 0, pos 0, pos 0) n _ refl
+refused-form Form.Halt n = refuses 17 (0, 0, 0, 0, pos 0, pos 0) n _ refl
+refused-form (Form.Ldsp a) n = refuses 18 (0, a, 0, 0, pos 0, pos 0) n _ (simp or-false)
+refused-form Form.Rts n = refuses 19 (0, 0, 0, 0, pos 0, pos 0) n _ refl
+refused-form (Form.Pop t) n = refuses 20 (t, 0, 0, 0, pos 0, pos 0) n _ (simp or-false)
+refused-form (Form.Push t) n = refuses 21 (t, 0, 0, 0, pos 0, pos 0) n _ (simp or-false)
+refused-form (Form.JumpRelative c a) n = refuses (entry (Jump c Relative)) (0, a, 0, 0, pos 0, pos 0) n _ (simp or-false)
+refused-form (Form.JumpAbsolute c a) n = refuses (entry (Jump c Absolute)) (0, a, 0, 0, pos 0, pos 0) n _ (simp or-false)
+refused-form (Form.CallRelative a) n = refuses 32 (0, a, 0, 0, pos 0, pos 0) n _ (simp or-false)
+refused-form (Form.CallAbsolute a) n = refuses 33 (0, a, 0, 0, pos 0, pos 0) n _ (simp or-false)
+refused-form (Form.JumpDisplaced c d) n = refuses (entry (Jump c Displaced)) (0, 0, 0, 0, d, pos 0) n _ (simp or-false)
+refused-form (Form.CallDisplaced d) n = refuses 39 (0, 0, 0, 0, pos 0, d) n _ refl

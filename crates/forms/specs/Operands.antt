@@ -1,5 +1,6 @@
--- The operands of an instruction, all six that there are: t, a, b, k, d10, d12.
-use Prim.Native.Nat.{ℕ, _+_, _-_, _*_, _%_}
+-- Document 01, 'Instruction table' and number 5: the operands of an instruction, all six that there are, in the order t, a, b, k,
+-- d10, d12.
+use Prim.Native.Nat.{ℕ, _+_, _*_, _%_}
 use mathlib.Core.Bool.{Bool, _||_}
 use lib.Dec.{ltb}
 use lib.IntN.{ℤ, pos, negℤ}
@@ -16,21 +17,31 @@ signed w = toZ w16 w
 abbrev pub unsigned : ℤ → ℕ
 unsigned d = ofZ w16 d
 
--- the operands in a word: its fields, the displacements with their sign
+-- the operands in a word: its fields, the displacements as signed numbers
 unfoldable pub operandsOf : ℕ → Operands
 operandsOf w = (fieldT w, fieldA w, fieldB w, fieldK w, signed (d10 w), signed (d12 w))
+
+-- what number 5 says of one operand: 'a register above 15, constant above 255, d10 outside -512..511 or d12 outside -2048..2047'
+abbrev pub noRegister : ℕ → Bool
+noRegister r = ltb 15 r
+
+abbrev pub noConstant : ℕ → Bool
+noConstant k = ltb 255 k
 
 abbrev pub outside : ℤ → ℤ → ℤ → Bool
 outside least most d = ltZ d least || ltZ most d
 
--- number 5: 'a register above 15, constant above 255, d10 outside -512..511 or d12 outside -2048..2047'
-unfoldable pub fault : Operands → Bool
-fault o =
-    ltb 15 (o .0)
-    || (ltb 15 (o .1)
-    || (ltb 15 (o .2)
-    || (ltb 255 (o .3) || (outside (negℤ (pos 512)) (pos 511) (o .4) || outside (negℤ (pos 2048)) (pos 2047) (o .5)))))
+abbrev pub noShort : ℤ → Bool
+noShort d = outside (negℤ (pos 512)) (pos 511) d
 
--- operands in their fields: bits 11-8, 7-4, 3-0, 7-0, 9-0 and 11-0
+abbrev pub noLong : ℤ → Bool
+noLong d = outside (negℤ (pos 2048)) (pos 2047) d
+
+-- and of all
+unfoldable pub fault : Operands → Bool
+fault x =
+    noRegister (x .0) || (noRegister (x .1) || (noRegister (x .2) || (noConstant (x .3) || (noShort (x .4) || noLong (x .5)))))
+
+-- operands in their fields, bits 11-8, 7-4, 3-0, 7-0, 9-0 and 11-0; of those that overlap an instruction has one, the rest zero
 unfoldable pub placed : Operands → ℕ
-placed o = o .0 * 256 + o .1 * 16 + o .2 + o .3 + unsigned (o .4) % 1024 + unsigned (o .5) % 4096
+placed x = x .0 * 256 + x .1 * 16 + x .2 + x .3 + unsigned (x .4) % 1024 + unsigned (x .5) % 4096

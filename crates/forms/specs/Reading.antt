@@ -10,24 +10,24 @@ use Rattle.forms.specs.Operands.{operandsOf}
 
 -- an instruction with its operands, those that it has
 abbrev pub formWith : Kind → Operands → Answer Form
-formWith Kind.Undefined o = refused 6
-formWith (Kind.Binary op) o = given (Form.Binary op (o .0) (o .1) (o .2))
-formWith (Kind.Constant op) o = given (Form.Constant op (o .0) (o .3))
-formWith Kind.Ld o = given (Form.Ld (o .0) (o .1) (o .2))
-formWith Kind.St o = given (Form.St (o .0) (o .1) (o .2))
-formWith (Kind.Unary op) o = given (Form.Unary op (o .0) (o .1))
-formWith Kind.Nop o = given Form.Nop
-formWith Kind.Halt o = given Form.Halt
-formWith Kind.Ldsp o = given (Form.Ldsp (o .1))
-formWith Kind.Rts o = given Form.Rts
-formWith Kind.Pop o = given (Form.Pop (o .0))
-formWith Kind.Push o = given (Form.Push (o .0))
-formWith (Kind.Jump condition Target.Relative) o = given (Form.JumpRelative condition (o .1))
-formWith (Kind.Jump condition Target.Absolute) o = given (Form.JumpAbsolute condition (o .1))
-formWith (Kind.Jump condition Target.Displaced) o = given (Form.JumpDisplaced condition (o .4))
-formWith (Kind.Call Target.Relative) o = given (Form.CallRelative (o .1))
-formWith (Kind.Call Target.Absolute) o = given (Form.CallAbsolute (o .1))
-formWith (Kind.Call Target.Displaced) o = given (Form.CallDisplaced (o .5))
+formWith Kind.Undefined x = refused 6
+formWith (Kind.Binary op) x = given (Form.Binary op (x .0) (x .1) (x .2))
+formWith (Kind.Constant op) x = given (Form.Constant op (x .0) (x .3))
+formWith Kind.Ld x = given (Form.Ld (x .0) (x .1) (x .2))
+formWith Kind.St x = given (Form.St (x .0) (x .1) (x .2))
+formWith (Kind.Unary op) x = given (Form.Unary op (x .0) (x .1))
+formWith Kind.Nop x = given Form.Nop
+formWith Kind.Halt x = given Form.Halt
+formWith Kind.Ldsp x = given (Form.Ldsp (x .1))
+formWith Kind.Rts x = given Form.Rts
+formWith Kind.Pop x = given (Form.Pop (x .0))
+formWith Kind.Push x = given (Form.Push (x .0))
+formWith (Kind.Jump condition Target.Relative) x = given (Form.JumpRelative condition (x .1))
+formWith (Kind.Jump condition Target.Absolute) x = given (Form.JumpAbsolute condition (x .1))
+formWith (Kind.Jump condition Target.Displaced) x = given (Form.JumpDisplaced condition (x .4))
+formWith (Kind.Call Target.Relative) x = given (Form.CallRelative (x .1))
+formWith (Kind.Call Target.Absolute) x = given (Form.CallAbsolute (x .1))
+formWith (Kind.Call Target.Displaced) x = given (Form.CallDisplaced (x .5))
 
 -- what word to form answers
 unfoldable pub wordToForm : ℕ → Answer Form

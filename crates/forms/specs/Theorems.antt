@@ -1,8 +1,9 @@
--- Words and forms together, over all fields at one go: four statements, proved in proofs/Theorems.antt.
+-- Words and forms together, over all fields at one go: five statements, proved in proofs/Theorems.antt.
 use mathlib.Core.Path.{_≡_}
 use mathlib.Core.Logic.{_↔_}
+use mathlib.Core.Bool.{Bool, true, false, _||_}
 use Prim.Native.Nat.{ℕ, _+_, _-_, _*_, _<_}
-use Rattle.isa.specs.Fields.{fieldT, fieldA, fieldE}
+use Rattle.isa.specs.Fields.{fieldT, fieldA, bits11to10}
 use Rattle.isa.specs.Table.{kindOf}
 use Rattle.isa.specs.declared.Kind.{Kind}
 use Rattle.isa.specs.declared.Kind.the-variants.{Undefined, Binary, Constant, Ld, St, Unary, Nop, Halt, Ldsp, Rts, Pop, Push, Jump, Call}
@@ -10,10 +11,12 @@ use Rattle.isa.specs.declared.Condition.the-variants.{Always, Negative, Zero, C
 use Rattle.isa.specs.declared.Target.the-variants.{Relative, Absolute, Displaced}
 use Rattle.forms.specs.declared.Form.{Form}
 use Rattle.forms.specs.Answers.{given, refused}
+use Rattle.forms.specs.Operands.{noRegister, noConstant, noShort, noLong}
 use Rattle.forms.specs.Reading.{wordToForm}
 use Rattle.forms.specs.Writing.{formToWord}
 
--- the fields that the table does not use for an instruction, as they stand in a word: t, a, or bits 11-10 of D
+-- the fields that the table does not use for an instruction, as they stand in a word: t, a, or bits 11-10 of D (of an undefined
+-- word nothing is asked)
 abbrev pub unusedBy : Kind → ℕ → ℕ
 unusedBy Undefined w = 0
 unusedBy (Binary op) w = 0
@@ -29,7 +32,7 @@ unusedBy Pop w = fieldA w * 16
 unusedBy Push w = fieldA w * 16
 unusedBy (Jump condition Relative) w = fieldT w * 256
 unusedBy (Jump condition Absolute) w = fieldT w * 256
-unusedBy (Jump Always Displaced) w = fieldE w * 1024
+unusedBy (Jump Always Displaced) w = bits11to10 w * 1024
 unusedBy (Jump Negative Displaced) w = 0
 unusedBy (Jump Zero Displaced) w = 0
 unusedBy (Jump Carry Displaced) w = 0
@@ -38,21 +41,46 @@ unusedBy (Call Relative) w = fieldT w * 256
 unusedBy (Call Absolute) w = fieldT w * 256
 unusedBy (Call Displaced) w = 0
 
+-- of any word; they are fields of it in their places, so that `w - unused w` is the word with them zero
 unfoldable pub unused : ℕ → ℕ
 unused w = unusedBy (kindOf w) w
 
--- form to word to form is the identity on every form that has a word
+-- form to word to form is the identity on every form that has a word (proved as `form-word-form`)
 abbrev pub FormWordForm : Type 0
 FormWordForm = (f : Form) (w : ℕ) → formToWord f ≡ given w → wordToForm w ≡ given f
 
--- word to form to word is the word with its unused fields zero
+-- word to form to word, where the word has a form, is the word with its unused fields zero (proved as `word-form-word`)
 abbrev pub WordFormWord : Type 0
 WordFormWord = (w : ℕ) → w < 65536 → (f : Form) → wordToForm w ≡ given f → formToWord f ≡ given (w - unused w)
 
--- and is the word itself exactly where they are zero
+-- and is the word itself exactly where they are zero (proved as `unchanged`)
 abbrev pub Unchanged : Type 0
 Unchanged = (w : ℕ) → w < 65536 → (f : Form) → wordToForm w ≡ given f → (formToWord f ≡ given w) ↔ (unused w ≡ 0)
 
--- a word is refused with 6 exactly where its kind is undefined, and with no other number
-abbrev pub Refused : Type 0
-Refused = (w n : ℕ) → (wordToForm w ≡ refused n) ↔ ((kindOf w ≡ Undefined) × (n ≡ 6))
+-- a word is refused exactly where its kind is undefined, with 6 (proved as `refused-word`)
+abbrev pub RefusedWord : Type 0
+RefusedWord = (w n : ℕ) → (wordToForm w ≡ refused n) ↔ ((kindOf w ≡ Undefined) × (n ≡ 6))
+
+-- number 5 of a form: 'a register above 15, constant above 255, d10 outside -512..511 or d12 outside -2048..2047'
+abbrev pub outOfRange : Form → Bool
+outOfRange (Form.Binary op t a b) = noRegister t || (noRegister a || noRegister b)
+outOfRange (Form.Constant op t k) = noRegister t || noConstant k
+outOfRange (Form.Ld t a b) = noRegister t || (noRegister a || noRegister b)
+outOfRange (Form.St t a b) = noRegister t || (noRegister a || noRegister b)
+outOfRange (Form.Unary op t a) = noRegister t || noRegister a
+outOfRange Form.Nop = false
+outOfRange Form.Halt = false
+outOfRange (Form.Ldsp a) = noRegister a
+outOfRange Form.Rts = false
+outOfRange (Form.Pop t) = noRegister t
+outOfRange (Form.Push t) = noRegister t
+outOfRange (Form.JumpRelative condition a) = noRegister a
+outOfRange (Form.JumpAbsolute condition a) = noRegister a
+outOfRange (Form.CallRelative a) = noRegister a
+outOfRange (Form.CallAbsolute a) = noRegister a
+outOfRange (Form.JumpDisplaced condition d10) = noShort d10
+outOfRange (Form.CallDisplaced d12) = noLong d12
+
+-- a form is refused exactly there, with 5 (proved as `refused-form`)
+abbrev pub RefusedForm : Type 0
+RefusedForm = (f : Form) (n : ℕ) → (formToWord f ≡ refused n) ↔ ((outOfRange f ≡ true) × (n ≡ 5))

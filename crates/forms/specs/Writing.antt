@@ -1,4 +1,5 @@
--- Document 01, 'Instruction table': form to word, by the same table; the fields that it does not use are zero.
+-- Document 01, 'Instruction table': form to word, by the same table (that `entry` and `wordOf` are its inverse is shown in
+-- `isa`, and that both ways meet in Theorems); the fields that it does not use are zero.
 use Prim.Native.Nat.{ℕ}
 use mathlib.Core.Bool.{cond}
 use lib.IntN.{pos}
@@ -13,11 +14,11 @@ use Rattle.forms.specs.Operands.{fault, placed}
 
 -- the word of the table's entry n with operands in their fields, or number 5
 unfoldable pub writtenAt : ℕ → Operands → Answer ℕ
-writtenAt n o = cond (fault o) (refused 5) (given (sum (wordOf n) (placed o)))
+writtenAt n x = cond (fault x) (refused 5) (given (sum (wordOf n) (placed x)))
 
 -- an instruction with operands, as a word
 abbrev pub written : Kind → Operands → Answer ℕ
-written kind o = writtenAt (entry kind) o
+written kind x = writtenAt (entry kind) x
 
 -- what form to word answers; the operands (t, a, b, k, d10, d12) that a form lacks are zero
 unfoldable pub formToWord : Form → Answer ℕ
@@ -36,5 +37,5 @@ formToWord (Form.JumpRelative condition a) = written (Kind.Jump condition Target
 formToWord (Form.JumpAbsolute condition a) = written (Kind.Jump condition Target.Absolute) (0, a, 0, 0, pos 0, pos 0)
 formToWord (Form.CallRelative a) = written (Kind.Call Target.Relative) (0, a, 0, 0, pos 0, pos 0)
 formToWord (Form.CallAbsolute a) = written (Kind.Call Target.Absolute) (0, a, 0, 0, pos 0, pos 0)
-formToWord (Form.JumpDisplaced condition d) = written (Kind.Jump condition Target.Displaced) (0, 0, 0, 0, d, pos 0)
-formToWord (Form.CallDisplaced d) = written (Kind.Call Target.Displaced) (0, 0, 0, 0, pos 0, d)
+formToWord (Form.JumpDisplaced condition d10) = written (Kind.Jump condition Target.Displaced) (0, 0, 0, 0, d10, pos 0)
+formToWord (Form.CallDisplaced d12) = written (Kind.Call Target.Displaced) (0, 0, 0, 0, pos 0, d12)

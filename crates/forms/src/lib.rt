@@ -1,4 +1,4 @@
-// Instruction words and forms: word to form and form to word, by the one table.
+// Instruction words and forms: word to form and form to word, by the table of `isa`.
 ghost use mathlib.Core.Path.{_≡_};
 ghost use Prim.Native.Nat.{_%_};
 ghost use Rattle.forms.specs.Answers.{formAnswer, wordAnswer};
@@ -14,7 +14,8 @@ use isa::Kind;
 use isa::Target;
 use isa::UnaryOp;
 
-// An instruction with the operands that it has.
+// An instruction with the operands that it has. Registers, constants and displacements that no word holds can be given: form
+// to word refuses them.
 pub enum Form {
     Binary { op: BinaryOp, t: u8, a: u8, b: u8 },
     Constant { op: ConstantOp, t: u8, k: u16 },
@@ -31,8 +32,8 @@ pub enum Form {
     JumpAbsolute { condition: Condition, a: u8 },
     CallRelative { a: u8 },
     CallAbsolute { a: u8 },
-    JumpDisplaced { condition: Condition, d: i16 },
-    CallDisplaced { d: i16 },
+    JumpDisplaced { condition: Condition, d10: i16 },
+    CallDisplaced { d12: i16 },
 }
 
 // What word to form answers.
@@ -80,61 +81,61 @@ fn operands_of(word: u16) -> Operands
     Operands(t, a, b, k, d10, d12)
 }
 
-fn form_with(kind: Kind, o: Operands) -> FormAnswer
-    ensures { λ r. ⌜ formAnswer r ≡ formWith kind o ⌝ }
+fn form_with(kind: Kind, x: Operands) -> FormAnswer
+    ensures { λ r. ⌜ formAnswer r ≡ formWith kind x ⌝ }
 {
     match kind {
         Kind::Undefined => FormAnswer::Undefined,
         Kind::Binary(op) => FormAnswer::Read(Form::Binary {
             op: op,
-            t: o.0,
-            a: o.1,
-            b: o.2,
+            t: x.0,
+            a: x.1,
+            b: x.2,
         }),
         Kind::Constant(op) => FormAnswer::Read(Form::Constant {
             op: op,
-            t: o.0,
-            k: o.3,
+            t: x.0,
+            k: x.3,
         }),
         Kind::Ld => FormAnswer::Read(Form::Ld {
-            t: o.0,
-            a: o.1,
-            b: o.2,
+            t: x.0,
+            a: x.1,
+            b: x.2,
         }),
         Kind::St => FormAnswer::Read(Form::St {
-            t: o.0,
-            a: o.1,
-            b: o.2,
+            t: x.0,
+            a: x.1,
+            b: x.2,
         }),
         Kind::Unary(op) => FormAnswer::Read(Form::Unary {
             op: op,
-            t: o.0,
-            a: o.1,
+            t: x.0,
+            a: x.1,
         }),
         Kind::Nop => FormAnswer::Read(Form::Nop),
         Kind::Halt => FormAnswer::Read(Form::Halt),
-        Kind::Ldsp => FormAnswer::Read(Form::Ldsp { a: o.1 }),
+        Kind::Ldsp => FormAnswer::Read(Form::Ldsp { a: x.1 }),
         Kind::Rts => FormAnswer::Read(Form::Rts),
-        Kind::Pop => FormAnswer::Read(Form::Pop { t: o.0 }),
-        Kind::Push => FormAnswer::Read(Form::Push { t: o.0 }),
+        Kind::Pop => FormAnswer::Read(Form::Pop { t: x.0 }),
+        Kind::Push => FormAnswer::Read(Form::Push { t: x.0 }),
         Kind::Jump(condition, target) => match target {
             Target::Relative => FormAnswer::Read(Form::JumpRelative {
                 condition: condition,
-                a: o.1,
+                a: x.1,
             }),
             Target::Absolute => FormAnswer::Read(Form::JumpAbsolute {
                 condition: condition,
-                a: o.1,
+                a: x.1,
             }),
             Target::Displaced => FormAnswer::Read(Form::JumpDisplaced {
                 condition: condition,
-                d: o.4,
+                d10: x.4,
             }),
         },
         Kind::Call(target) => match target {
-            Target::Relative => FormAnswer::Read(Form::CallRelative { a: o.1 }),
-            Target::Absolute => FormAnswer::Read(Form::CallAbsolute { a: o.1 }),
-            Target::Displaced => FormAnswer::Read(Form::CallDisplaced { d: o.5 }),
+            Target::Relative => FormAnswer::Read(Form::CallRelative { a: x.1 }),
+            Target::Absolute => FormAnswer::Read(Form::CallAbsolute { a: x.1 }),
+            Target::Displaced => FormAnswer::Read(Form::CallDisplaced { d12: x.5 }),
         },
     }
 }
@@ -182,7 +183,7 @@ fn unary_entry(op: UnaryOp) -> u8
 }
 
 fn relative_entry(condition: Condition) -> u8
-    ensures { λ r. ⌜ r ≡ jumpEntry Relative condition ⌝ }
+    ensures { λ r. ⌜ r ≡ jumpEntry condition Relative ⌝ }
 {
     match condition {
         Condition::Always => 22,
@@ -194,7 +195,7 @@ fn relative_entry(condition: Condition) -> u8
 }
 
 fn absolute_entry(condition: Condition) -> u8
-    ensures { λ r. ⌜ r ≡ jumpEntry Absolute condition ⌝ }
+    ensures { λ r. ⌜ r ≡ jumpEntry condition Absolute ⌝ }
 {
     match condition {
         Condition::Always => 27,
@@ -206,7 +207,7 @@ fn absolute_entry(condition: Condition) -> u8
 }
 
 fn displaced_entry(condition: Condition) -> u8
-    ensures { λ r. ⌜ r ≡ jumpEntry Displaced condition ⌝ }
+    ensures { λ r. ⌜ r ≡ jumpEntry condition Displaced ⌝ }
 {
     match condition {
         Condition::Always => 34,
@@ -217,54 +218,54 @@ fn displaced_entry(condition: Condition) -> u8
     }
 }
 
-fn is_outside(d: i16, least: i16, most: i16) -> bool
+fn is_outside(least: i16, most: i16, d: i16) -> bool
     ensures { λ r. ⌜ r ≡ outside least most d ⌝ }
 {
     if d < least { true } else { most < d }
 }
 
-fn has_fault(o: Operands) -> bool
-    ensures { λ r. ⌜ r ≡ fault o ⌝ }
+fn has_fault(x: Operands) -> bool
+    ensures { λ r. ⌜ r ≡ fault x ⌝ }
 {
-    if 15 < o.0 {
+    if 15 < x.0 {
         return true;
     }
-    if 15 < o.1 {
+    if 15 < x.1 {
         return true;
     }
-    if 15 < o.2 {
+    if 15 < x.2 {
         return true;
     }
-    if 255 < o.3 {
+    if 255 < x.3 {
         return true;
     }
-    if is_outside(o.4, -512, 511) {
+    if is_outside(-512, 511, x.4) {
         return true;
     }
-    is_outside(o.5, -2048, 2047)
+    is_outside(-2048, 2047, x.5)
 }
 
-fn placed_of(o: Operands) -> u16
-    ensures { λ r. ⌜ r ≡ placed o % 65536 ⌝ }
+fn placed_of(x: Operands) -> u16
+    ensures { λ r. ⌜ r ≡ placed x % 65536 ⌝ }
 {
-    let d10 = unsigned_of(o.4) % 1024;
-    let d12 = unsigned_of(o.5) % 4096;
-    let sum = o.0 as u32 * 256
-        + o.1 as u32 * 16
-        + o.2 as u32
-        + o.3 as u32
+    let d10 = unsigned_of(x.4) % 1024;
+    let d12 = unsigned_of(x.5) % 4096;
+    let sum = x.0 as u32 * 256
+        + x.1 as u32 * 16
+        + x.2 as u32
+        + x.3 as u32
         + d10 as u32
         + d12 as u32;
     (sum % 65536) as u16
 }
 
-fn write(entry: u8, o: Operands) -> WordAnswer
-    ensures { λ r. ⌜ wordAnswer r ≡ writtenAt entry o ⌝ }
+fn write(entry: u8, x: Operands) -> WordAnswer
+    ensures { λ r. ⌜ wordAnswer r ≡ writtenAt entry x ⌝ }
 {
-    if has_fault(o) {
+    if has_fault(x) {
         return WordAnswer::OutOfRange;
     }
-    WordAnswer::Written(words::add(isa::word_of(entry), placed_of(o)))
+    WordAnswer::Written(words::add(isa::word_of(entry), placed_of(x)))
 }
 
 // Form to word: the word, its unused fields zero, or number 5.
@@ -293,10 +294,10 @@ pub fn form_to_word(form: Form) -> WordAnswer
         ),
         Form::CallRelative { a } => write(32, Operands(0, a, 0, 0, 0, 0)),
         Form::CallAbsolute { a } => write(33, Operands(0, a, 0, 0, 0, 0)),
-        Form::JumpDisplaced { condition, d } => write(
+        Form::JumpDisplaced { condition, d10 } => write(
             displaced_entry(condition),
-            Operands(0, 0, 0, 0, d, 0),
+            Operands(0, 0, 0, 0, d10, 0),
         ),
-        Form::CallDisplaced { d } => write(39, Operands(0, 0, 0, 0, 0, d)),
+        Form::CallDisplaced { d12 } => write(39, Operands(0, 0, 0, 0, 0, d12)),
     }
 }

@@ -7,7 +7,7 @@ use native.Mathlib.Nat.{add-zero, add-suc, suc-add, le-of-suc-le-suc, not-suc-le
 use native.Mathlib.Omega.{arith}
 use lib.Dec.{T, eqb, eqb→eq, lit<, lit≤}
 use lib.ListN.{length, getD, List·getD-map}
-use Rattle.isa.specs.Table.{table, numberOf, kindOf, binaryEntry, constantEntry, unaryEntry, jumpEntry, entry}
+use Rattle.isa.specs.Table.{table, placeOf, kindOf, binaryEntry, constantEntry, unaryEntry, jumpEntry, entry}
 use Rattle.isa.specs.declared.Kind.{Kind}
 use Rattle.isa.specs.declared.Kind.the-variants.{Undefined, Binary, Constant, Ld, St, Unary, Nop, Halt, Ldsp, Rts, Pop, Push, Jump, Call}
 use Rattle.isa.specs.declared.BinaryOp.{BinaryOp}
@@ -20,7 +20,7 @@ use Rattle.isa.specs.declared.Condition.{Condition}
 use Rattle.isa.specs.declared.Condition.the-variants.{Always, Negative, Zero, Carry, Overflow}
 use Rattle.isa.specs.declared.Target.{Target}
 use Rattle.isa.specs.declared.Target.the-variants.{Relative, Absolute, Displaced}
-use Rattle.isa.proofs.Lines.{number-le, Line, line}
+use Rattle.isa.proofs.Lines.{place-le, Line, line}
 
 -- the list counts up from i
 counts : ℕ → List ℕ → Bool
@@ -49,9 +49,9 @@ unfolding table counts
 entry-at n h =
     sym (List·getD-map entry table n Undefined) ∙ counted (map entry table) 0 40 tt refl n h ∙ omega arith
 
-pub entry-kind : (w : ℕ) → w < 65536 → entry (kindOf w) ≡ numberOf w
+pub entry-kind : (w : ℕ) → w < 65536 → entry (kindOf w) ≡ placeOf w
 unfolding kindOf
-entry-kind w h = entry-at (numberOf w) (number-le w h)
+entry-kind w h = entry-at (placeOf w) (place-le w h)
 
 -- and at its own place each kind is found
 pub kind-at : (k : Kind) → getD table (entry k) Undefined ≡ k
@@ -68,15 +68,17 @@ kind-at Ldsp = refl
 kind-at Rts = refl
 kind-at Pop = refl
 kind-at Push = refl
-kind-at (Jump c Relative) = elim c [ Always ↦ refl | Negative ↦ refl | Zero ↦ refl | Carry ↦ refl | Overflow ↦ refl ]
-kind-at (Jump c Absolute) = elim c [ Always ↦ refl | Negative ↦ refl | Zero ↦ refl | Carry ↦ refl | Overflow ↦ refl ]
-kind-at (Jump c Displaced) = elim c [ Always ↦ refl | Negative ↦ refl | Zero ↦ refl | Carry ↦ refl | Overflow ↦ refl ]
+kind-at (Jump Always t) = elim t [ Relative ↦ refl | Absolute ↦ refl | Displaced ↦ refl ]
+kind-at (Jump Negative t) = elim t [ Relative ↦ refl | Absolute ↦ refl | Displaced ↦ refl ]
+kind-at (Jump Zero t) = elim t [ Relative ↦ refl | Absolute ↦ refl | Displaced ↦ refl ]
+kind-at (Jump Carry t) = elim t [ Relative ↦ refl | Absolute ↦ refl | Displaced ↦ refl ]
+kind-at (Jump Overflow t) = elim t [ Relative ↦ refl | Absolute ↦ refl | Displaced ↦ refl ]
 kind-at (Call target) = elim target [ Relative ↦ refl | Absolute ↦ refl | Displaced ↦ refl ]
 
 -- a word that stands where a kind does is of that kind
-pub kind-by-number : (w : ℕ) (k : Kind) → numberOf w ≡ entry k → kindOf w ≡ k
+pub kind-by-place : (w : ℕ) (k : Kind) → placeOf w ≡ entry k → kindOf w ≡ k
 unfolding kindOf
-kind-by-number w k e = ap (λ (n : ℕ). getD table n Undefined) e ∙ kind-at k
+kind-by-place w k e = ap (λ (n : ℕ). getD table n Undefined) e ∙ kind-at k
 
 -- which line of the table an entry is on
 pub binary-on-O : (op : BinaryOp) → binaryEntry op < 11
@@ -94,10 +96,12 @@ first Relative = 22
 first Absolute = 27
 first Displaced = 34
 
-pub jump-on : (t : Target) (c : Condition) → (first t ≤ jumpEntry t c) × (jumpEntry t c < first t + 5)
-jump-on Relative c = elim c [ Always ↦ omega arith | Negative ↦ omega arith | Zero ↦ omega arith | Carry ↦ omega arith | Overflow ↦ omega arith ]
-jump-on Absolute c = elim c [ Always ↦ omega arith | Negative ↦ omega arith | Zero ↦ omega arith | Carry ↦ omega arith | Overflow ↦ omega arith ]
-jump-on Displaced c = elim c [ Always ↦ omega arith | Negative ↦ omega arith | Zero ↦ omega arith | Carry ↦ omega arith | Overflow ↦ omega arith ]
+pub jump-on : (c : Condition) (t : Target) → (first t ≤ jumpEntry c t) × (jumpEntry c t < first t + 5)
+jump-on Always t = elim t [ Relative ↦ omega arith | Absolute ↦ omega arith | Displaced ↦ omega arith ]
+jump-on Negative t = elim t [ Relative ↦ omega arith | Absolute ↦ omega arith | Displaced ↦ omega arith ]
+jump-on Zero t = elim t [ Relative ↦ omega arith | Absolute ↦ omega arith | Displaced ↦ omega arith ]
+jump-on Carry t = elim t [ Relative ↦ omega arith | Absolute ↦ omega arith | Displaced ↦ omega arith ]
+jump-on Overflow t = elim t [ Relative ↦ omega arith | Absolute ↦ omega arith | Displaced ↦ omega arith ]
 
 -- the line of a word's own kind
 pub line-of : (w : ℕ) → w < 65536 → (k : Kind) → kindOf w ≡ k → Line w (entry k)

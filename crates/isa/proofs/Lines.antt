@@ -3,9 +3,9 @@ use mathlib.Core.Path.{_≡_, _∙_}
 use Prim.Native.Nat.{ℕ, _+_, _-_, _*_, _/_, _%_, _≤_, _<_}
 use native.Mathlib.Omega.{arith}
 use native.Mathlib.Decide.{decLt, ℕ-discrete}
-use Rattle.isa.specs.Fields.{fieldO, fieldB, fieldE}
-use Rattle.isa.specs.Table.{numberOf, wordOf}
-use Rattle.isa.proofs.Table.{number-O, number-B, number-B-undefined, number-C, number-C-undefined, number-D, number-E, number-F, word-O, word-B, word-C, word-D, word-E, word-F}
+use Rattle.isa.specs.Fields.{fieldO, fieldB, bits11to10}
+use Rattle.isa.specs.Table.{placeOf, wordOf}
+use Rattle.isa.proofs.Table.{place-O, place-B, place-B-undefined, place-C, place-C-undefined, place-D, place-E, place-F, word-O, word-B, word-C, word-D, word-E, word-F}
 
 -- an argument by the lines of the table
 pub by-line : (w : ℕ) → w < 65536 → {P : Type 0} → (fieldO w < 11 → P) → (fieldO w ≡ 11 → fieldB w < 11 → P)
@@ -30,17 +30,17 @@ by-line w h {P} o b b′ c c′ d e f =
           ]
     ]
 
-pub number-le : (w : ℕ) → w < 65536 → numberOf w ≤ 40
-number-le w h =
+pub place-le : (w : ℕ) → w < 65536 → placeOf w ≤ 40
+place-le w h =
     by-line w h
-    (λ l. omega (arith, number-O w l))
-    (λ l m. omega (arith, number-B w l m))
-    (λ l m. omega (arith, number-B-undefined w l m))
-    (λ l m. omega (arith, number-C w l m))
-    (λ l m. omega (arith, number-C-undefined w l m))
-    (λ l. omega (arith, number-D w l))
-    (λ l. omega (arith, number-E w l))
-    (λ l. omega (arith, number-F w l))
+    (λ l. omega (arith, place-O w l))
+    (λ l m. omega (arith, place-B w l m))
+    (λ l m. omega (arith, place-B-undefined w l m))
+    (λ l m. omega (arith, place-C w l m))
+    (λ l m. omega (arith, place-C-undefined w l m))
+    (λ l. omega (arith, place-D w l))
+    (λ l. omega (arith, place-E w l))
+    (λ l. omega (arith, place-F w l))
 
 -- a word w that stands at n is the word of entry n with the rest of its fields added: below o, beside b, or below bits 11-10
 abbrev pub Line : ℕ → ℕ → Type 0
@@ -50,40 +50,40 @@ Line w n =
     × (35 ≤ n → n < 39 → wordOf n + w % 1024 ≡ w)
     × (n ≡ 39 → wordOf n + w % 4096 ≡ w)
 
-pub line : (w : ℕ) → w < 65536 → Line w (numberOf w)
+pub line : (w : ℕ) → w < 65536 → Line w (placeOf w)
 line w h =
     by-line w h
-    (λ l. let e = number-O w l in omega (arith, e, word-O (numberOf w) (omega (arith, e))))
-    (λ l m. let e = number-B w l m in omega (arith, e, word-B (numberOf w) (omega (arith, e)) (omega (arith, e))))
-    (λ l m. omega (arith, number-B-undefined w l m))
-    (λ l m. let e = number-C w l m in omega (arith, e, word-C (numberOf w) (omega (arith, e)) (omega (arith, e))))
-    (λ l m. omega (arith, number-C-undefined w l m))
-    (λ l. let e = number-D w l in omega (arith, e, word-D (numberOf w) (omega (arith, e)) (omega (arith, e))))
-    (λ l. let e = number-E w l in omega (arith, e, word-E (numberOf w) (omega (arith, e)) (omega (arith, e))))
-    (λ l. let e = number-F w l in omega (arith, e, word-F (numberOf w) (omega (arith, e))))
+    (λ l. let e = place-O w l in omega (arith, e, word-O (placeOf w) (omega (arith, e))))
+    (λ l m. let e = place-B w l m in omega (arith, e, word-B (placeOf w) (omega (arith, e)) (omega (arith, e))))
+    (λ l m. omega (arith, place-B-undefined w l m))
+    (λ l m. let e = place-C w l m in omega (arith, e, word-C (placeOf w) (omega (arith, e)) (omega (arith, e))))
+    (λ l m. omega (arith, place-C-undefined w l m))
+    (λ l. let e = place-D w l in omega (arith, e, word-D (placeOf w) (omega (arith, e)) (omega (arith, e))))
+    (λ l. let e = place-E w l in omega (arith, e, word-E (placeOf w) (omega (arith, e)) (omega (arith, e))))
+    (λ l. let e = place-F w l in omega (arith, e, word-F (placeOf w) (omega (arith, e))))
 
 -- and what is so added leaves a word at its entry
 module _ (n x : ℕ) where
-  pub number-word-O : n < 11 → x < 4096 → numberOf (wordOf n + x) ≡ n
-  number-word-O h l = let e = word-O n h in number-O (wordOf n + x) (omega (arith, e)) ∙ omega (arith, e)
+  pub place-word-O : n < 11 → x < 4096 → placeOf (wordOf n + x) ≡ n
+  place-word-O h l = let e = word-O n h in place-O (wordOf n + x) (omega (arith, e)) ∙ omega (arith, e)
 
-  pub number-word-BC : 11 ≤ n → n < 34 → x < 4096 → x % 16 ≡ 0 → numberOf (wordOf n + x) ≡ n
-  number-word-BC g h l z =
+  pub place-word-BC : 11 ≤ n → n < 34 → x < 4096 → x % 16 ≡ 0 → placeOf (wordOf n + x) ≡ n
+  place-word-BC g h l z =
       elim (decLt n 22) [
-        | yes m ↦ let e = word-B n g m in number-B (wordOf n + x) (omega (arith, e)) (omega (arith, e)) ∙ omega (arith, e)
+        | yes m ↦ let e = word-B n g m in place-B (wordOf n + x) (omega (arith, e)) (omega (arith, e)) ∙ omega (arith, e)
         | no m ↦
-            let e = word-C n (omega arith) h in number-C (wordOf n + x) (omega (arith, e)) (omega (arith, e)) ∙ omega (arith, e)
+            let e = word-C n (omega arith) h in place-C (wordOf n + x) (omega (arith, e)) (omega (arith, e)) ∙ omega (arith, e)
       ]
 
-  pub number-word-DE : 34 ≤ n → n < 39 → x < 1024 → numberOf (wordOf n + x) ≡ n
-  number-word-DE g h l =
+  pub place-word-DE : 34 ≤ n → n < 39 → x < 1024 → placeOf (wordOf n + x) ≡ n
+  place-word-DE g h l =
       elim (decLt n 35) [
-        | yes m ↦ let e = word-D n g m in number-D (wordOf n + x) (omega (arith, e)) ∙ omega arith
-        | no m ↦ let e = word-E n (omega arith) h in number-E (wordOf n + x) (omega (arith, e)) ∙ omega (arith, e)
+        | yes m ↦ let e = word-D n g m in place-D (wordOf n + x) (omega (arith, e)) ∙ omega arith
+        | no m ↦ let e = word-E n (omega arith) h in place-E (wordOf n + x) (omega (arith, e)) ∙ omega (arith, e)
       ]
 
-  pub number-word-F : n ≡ 39 → x < 4096 → numberOf (wordOf n + x) ≡ n
-  number-word-F g l = let e = word-F n (omega arith) in number-F (wordOf n + x) (omega (arith, e)) ∙ omega arith
+  pub place-word-F : n ≡ 39 → x < 4096 → placeOf (wordOf n + x) ≡ n
+  place-word-F g l = let e = word-F n (omega arith) in place-F (wordOf n + x) (omega (arith, e)) ∙ omega arith
 
 -- what the word of an entry has in its fields
 module _ (n : ℕ) where

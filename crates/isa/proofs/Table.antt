@@ -5,44 +5,44 @@ use Prim.Native.Nat.{ℕ, _+_, _-_, _*_, _≤_, _<_}
 use native.Mathlib.Omega.{arith}
 use lib.ListN.{List·getD-eq-default}
 use borrow.Author.Tests.{lt-ltb, le-ltb}
-use Rattle.isa.specs.Fields.{fieldO, fieldB, fieldE}
-use Rattle.isa.specs.Table.{table, numberOf, kindOf, wordOf}
+use Rattle.isa.specs.Fields.{fieldO, fieldB, bits11to10}
+use Rattle.isa.specs.Table.{table, placeOf, kindOf, wordOf}
 use Rattle.isa.specs.declared.Kind.the-variants.{Undefined}
 
 module _ (w : ℕ) where
-  pub number-O : fieldO w < 11 → numberOf w ≡ fieldO w
-  unfolding numberOf
-  number-O h = rw (lt-ltb _ _ h)
+  pub place-O : fieldO w < 11 → placeOf w ≡ fieldO w
+  unfolding placeOf
+  place-O h = rw (lt-ltb _ _ h)
 
-  pub number-B : fieldO w ≡ 11 → fieldB w < 11 → numberOf w ≡ 11 + fieldB w
-  unfolding numberOf
-  number-B e h = rw (e, lt-ltb _ _ h)
+  pub place-B : fieldO w ≡ 11 → fieldB w < 11 → placeOf w ≡ 11 + fieldB w
+  unfolding placeOf
+  place-B e h = rw (e, lt-ltb _ _ h)
 
-  pub number-B-undefined : fieldO w ≡ 11 → 11 ≤ fieldB w → numberOf w ≡ 40
-  unfolding numberOf
-  number-B-undefined e h = rw (e, le-ltb _ _ h)
+  pub place-B-undefined : fieldO w ≡ 11 → 11 ≤ fieldB w → placeOf w ≡ 40
+  unfolding placeOf
+  place-B-undefined e h = rw (e, le-ltb _ _ h)
 
-  pub number-C : fieldO w ≡ 12 → fieldB w < 12 → numberOf w ≡ 22 + fieldB w
-  unfolding numberOf
-  number-C e h = rw (e, lt-ltb _ _ h)
+  pub place-C : fieldO w ≡ 12 → fieldB w < 12 → placeOf w ≡ 22 + fieldB w
+  unfolding placeOf
+  place-C e h = rw (e, lt-ltb _ _ h)
 
-  pub number-C-undefined : fieldO w ≡ 12 → 12 ≤ fieldB w → numberOf w ≡ 40
-  unfolding numberOf
-  number-C-undefined e h = rw (e, le-ltb _ _ h)
+  pub place-C-undefined : fieldO w ≡ 12 → 12 ≤ fieldB w → placeOf w ≡ 40
+  unfolding placeOf
+  place-C-undefined e h = rw (e, le-ltb _ _ h)
 
-  pub number-D : fieldO w ≡ 13 → numberOf w ≡ 34
-  unfolding numberOf
-  number-D e = rw e
+  pub place-D : fieldO w ≡ 13 → placeOf w ≡ 34
+  unfolding placeOf
+  place-D e = rw e
 
-  pub number-E : fieldO w ≡ 14 → numberOf w ≡ 35 + fieldE w
-  unfolding numberOf
-  number-E e = rw e
+  pub place-E : fieldO w ≡ 14 → placeOf w ≡ 35 + bits11to10 w
+  unfolding placeOf
+  place-E e = rw e
 
-  pub number-F : fieldO w ≡ 15 → numberOf w ≡ 39
-  unfolding numberOf
-  number-F e = rw e
+  pub place-F : fieldO w ≡ 15 → placeOf w ≡ 39
+  unfolding placeOf
+  place-F e = rw e
 
-  pub kind-past : 40 ≤ numberOf w → kindOf w ≡ Undefined
+  pub kind-past : 40 ≤ placeOf w → kindOf w ≡ Undefined
   unfolding kindOf table
   kind-past h = List·getD-eq-default table Undefined h
 

@@ -7,51 +7,53 @@ use native.Mathlib.Omega.{arith}
 use lib.Dec.{eqb, leb, lit<}
 use borrow.Author.Tests.{le-leb, lt-leb, ne-eqb}
 use Rattle.words.specs.Arithmetic.{bit}
-use Rattle.isa.specs.Fields.{fieldO, fieldB, fieldE}
-use Rattle.isa.specs.Table.{numberOf, kindOf, entry}
-use Rattle.isa.specs.Theorems.{EntryInTable, UndefinedExactly, overDigits, howMany, UndefinedCount}
+use Rattle.isa.specs.Fields.{fieldO, fieldB, bits11to10}
+use Rattle.isa.specs.Table.{table, placeOf, kindOf, entry}
+use Rattle.isa.specs.Theorems.{TableEntries, UndefinedExactly, overDigits, howMany, UndefinedCount}
 use Rattle.isa.specs.declared.Kind.the-variants.{Undefined}
-use Rattle.isa.proofs.Table.{number-O, number-B, number-B-undefined, number-C, number-C-undefined, number-D, number-E, number-F, kind-past}
+use Rattle.isa.proofs.Table.{place-O, place-B, place-B-undefined, place-C, place-C-undefined, place-D, place-E, place-F, kind-past}
 use Rattle.isa.proofs.Lines.{by-line}
-use Rattle.isa.proofs.Entries.{kind-at, entry-kind}
+use Rattle.isa.proofs.Entries.{kind-at, entry-at, entry-kind}
 
-pub entry-in-table : EntryInTable
-entry-in-table k = kind-at k
+pub table-entries : TableEntries
+unfolding table
+table-entries = (refl, kind-at, entry-at)
 
 pub undefined-exactly : UndefinedExactly
 undefined-exactly w h = (
   λ q.
-      let n : numberOf w ≡ 40 = sym (entry-kind w h) ∙ ap entry q in
+      let n : placeOf w ≡ 40 = sym (entry-kind w h) ∙ ap entry q in
       by-line w h
-      (λ l. absurd (omega (arith, number-O w l)))
-      (λ l m. absurd (omega (arith, number-B w l m)))
+      (λ l. absurd (omega (arith, place-O w l)))
+      (λ l m. absurd (omega (arith, place-B w l m)))
       (λ l m. inl (l, m))
-      (λ l m. absurd (omega (arith, number-C w l m)))
+      (λ l m. absurd (omega (arith, place-C w l m)))
       (λ l m. inr (l, m))
-      (λ l. absurd (omega (arith, number-D w l)))
-      (λ l. absurd (omega (arith, number-E w l)))
-      (λ l. absurd (omega (arith, number-F w l))),
+      (λ l. absurd (omega (arith, place-D w l)))
+      (λ l. absurd (omega (arith, place-E w l)))
+      (λ l. absurd (omega (arith, place-F w l))),
   ⊎-elim
-      (λ p. kind-past w (omega (arith, number-B-undefined w (p .0) (p .1))))
-      (λ p. kind-past w (omega (arith, number-C-undefined w (p .0) (p .1)))),
+      (λ p. kind-past w (omega (arith, place-B-undefined w (p .0) (p .1))))
+      (λ p. kind-past w (omega (arith, place-C-undefined w (p .0) (p .1)))),
 )
 
 -- whether a word is undefined goes by o and b alone
 by-digits : ℕ → ℕ → ℕ
 by-digits o b = bit ((eqb o 11 && leb 11 b) || (eqb o 12 && leb 12 b))
 
-undefined-by-digits : (w : ℕ) → w < 65536 → bit (eqb (numberOf w) 40) ≡ by-digits (fieldO w) (fieldB w)
+undefined-by-digits : (w : ℕ) → w < 65536 → bit (eqb (entry (kindOf w)) 40) ≡ by-digits (fieldO w) (fieldB w)
 unfolding by-digits
 undefined-by-digits w h =
-    by-line w h
-    (λ l. rw (number-O w l, ne-eqb (fieldO w) 40 (λ e. omega arith), ne-eqb (fieldO w) 11 (λ e. omega arith), ne-eqb (fieldO w) 12 (λ e. omega arith)))
-    (λ l m. rw (number-B w l m, ne-eqb (11 + fieldB w) 40 (λ e. omega arith), l, lt-leb 11 (fieldB w) m))
-    (λ l m. rw (number-B-undefined w l m, l, le-leb 11 (fieldB w) m))
-    (λ l m. rw (number-C w l m, ne-eqb (22 + fieldB w) 40 (λ e. omega arith), l, lt-leb 12 (fieldB w) m))
-    (λ l m. rw (number-C-undefined w l m, l, le-leb 12 (fieldB w) m))
-    (λ l. rw (number-D w l, l))
-    (λ l. rw (number-E w l, ne-eqb (35 + fieldE w) 40 (λ e. omega arith), l))
-    (λ l. rw (number-F w l, l))
+    rw (entry-kind w h)
+    (by-line w h
+    (λ l. rw (place-O w l, ne-eqb (fieldO w) 40 (λ e. omega arith), ne-eqb (fieldO w) 11 (λ e. omega arith), ne-eqb (fieldO w) 12 (λ e. omega arith)))
+    (λ l m. rw (place-B w l m, ne-eqb (11 + fieldB w) 40 (λ e. omega arith), l, lt-leb 11 (fieldB w) m))
+    (λ l m. rw (place-B-undefined w l m, l, le-leb 11 (fieldB w) m))
+    (λ l m. rw (place-C w l m, ne-eqb (22 + fieldB w) 40 (λ e. omega arith), l, lt-leb 12 (fieldB w) m))
+    (λ l m. rw (place-C-undefined w l m, l, le-leb 12 (fieldB w) m))
+    (λ l. rw (place-D w l, l))
+    (λ l. rw (place-E w l, ne-eqb (35 + bits11to10 w) 40 (λ e. omega arith), l))
+    (λ l. rw (place-F w l, l)))
 
 over-cong : (f g : ℕ → ℕ) → ((d : ℕ) → d < 16 → f d ≡ g d) → overDigits f ≡ overDigits g
 over-cong f g h =
@@ -62,7 +64,7 @@ over-const : (c : ℕ) → overDigits (λ _. c) ≡ 16 * c
 over-const c = omega arith
 
 at-digits : (o t a b : ℕ) → o < 16 → t < 16 → a < 16 → b < 16
-    → bit (eqb (numberOf (o * 4096 + t * 256 + a * 16 + b)) 40) ≡ by-digits o b
+    → bit (eqb (entry (kindOf (o * 4096 + t * 256 + a * 16 + b))) 40) ≡ by-digits o b
 at-digits o t a b p q r s =
     let w : ℕ = o * 4096 + t * 256 + a * 16 + b in
     let x : fieldO w ≡ o = omega arith in

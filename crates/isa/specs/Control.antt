@@ -19,35 +19,37 @@ taken Zero flags = flags .z
 taken Carry flags = flags .c
 taken Overflow flags = flags .v
 
--- 'to PC+Ra', 'to Ra', 'to PC+d10' or 'to PC+d12'; PC 'is already one past the instruction'
+-- 'to PC+Ra', 'to Ra', or to PC and a displacement; 'PC is already one past the instruction'
 abbrev pub address : Target → ℕ → ℕ → ℕ → ℕ
 address Relative pc register displacement = sum pc register
 address Absolute pc register displacement = register
 address Displaced pc register displacement = sum pc displacement
 
+-- a jump's displacement is d10, a call's d12
 abbrev pub jumpTarget : Target → ℕ → ℕ → ℕ → ℕ
 jumpTarget target w pc register = address target pc register (d10 w)
 
 abbrev pub callTarget : Target → ℕ → ℕ → ℕ → ℕ
 callTarget target w pc register = address target pc register (d12 w)
 
--- 'RB takes Rt for ADDI, SUBI, LDL, LDH, PUSH, else Rb'
-abbrev pub latchesTarget : Kind → Bool
-latchesTarget Undefined = false
-latchesTarget (Binary op) = false
-latchesTarget (Constant op) = true
-latchesTarget Ld = false
-latchesTarget St = false
-latchesTarget (Unary op) = false
-latchesTarget Nop = false
-latchesTarget Halt = false
-latchesTarget Ldsp = false
-latchesTarget Rts = false
-latchesTarget Pop = false
-latchesTarget Push = true
-latchesTarget (Jump condition target) = false
-latchesTarget (Call target) = false
+-- cycle 2: 'RB takes Rt for ADDI, SUBI, LDL, LDH, PUSH, else Rb'. HALT and undefined words stop there and latch nothing: what
+-- these definitions say of them is not used
+abbrev pub latchesRt : Kind → Bool
+latchesRt Undefined = false
+latchesRt (Binary op) = false
+latchesRt (Constant op) = true
+latchesRt Ld = false
+latchesRt St = false
+latchesRt (Unary op) = false
+latchesRt Nop = false
+latchesRt Halt = false
+latchesRt Ldsp = false
+latchesRt Rts = false
+latchesRt Pop = false
+latchesRt Push = true
+latchesRt (Jump condition target) = false
+latchesRt (Call target) = false
 
 -- the number of the register that RB takes
 abbrev pub secondRegister : Kind → ℕ → ℕ
-secondRegister kind w = cond (latchesTarget kind) (fieldT w) (fieldB w)
+secondRegister kind w = cond (latchesRt kind) (fieldT w) (fieldB w)

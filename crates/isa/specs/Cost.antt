@@ -14,10 +14,12 @@ countOf Stop = 2
 countOf Short = 3
 countOf Full = 4
 
+-- of a jump, by whether it is taken
 abbrev pub jumpClass : Bool → Class
 jumpClass true = Full
 jumpClass false = Short
 
+-- HALT and undefined are in the first class, NOP and an untaken jump in the second, all others in the third
 abbrev pub classOf : Kind → Flags → Class
 classOf Undefined flags = Stop
 classOf (Binary op) flags = Full

@@ -19,9 +19,9 @@ fieldB w = w % 16
 abbrev pub fieldK : ℕ → ℕ
 fieldK w = w % 256
 
--- bits 11-10, by which row E goes on
-abbrev pub fieldE : ℕ → ℕ
-fieldE w = w / 1024 % 4
+-- bits 11-10, by which E goes on
+abbrev pub bits11to10 : ℕ → ℕ
+bits11to10 w = w / 1024 % 4
 
 -- a number below 2 * half as a word of 16 bits: from half on its top bit is set, and so are all bits above it
 abbrev pub extended : ℕ → ℕ → ℕ

@@ -4,7 +4,7 @@ use mathlib.Core.Bool.{cond}
 use mathlib.Core.List.{List, [], _∷_}
 use lib.Dec.{ltb, eqb}
 use lib.ListN.{getD}
-use Rattle.isa.specs.Fields.{fieldO, fieldB, fieldE}
+use Rattle.isa.specs.Fields.{fieldO, fieldB, bits11to10}
 use Rattle.isa.specs.declared.Kind.{Kind}
 use Rattle.isa.specs.declared.Kind.the-variants.{Undefined, Binary, Constant, Ld, St, Unary, Nop, Halt, Ldsp, Rts, Pop, Push, Jump, Call}
 use Rattle.isa.specs.declared.BinaryOp.{BinaryOp}
@@ -18,7 +18,7 @@ use Rattle.isa.specs.declared.Condition.the-variants.{Always, Negative, 
 use Rattle.isa.specs.declared.Target.{Target}
 use Rattle.isa.specs.declared.Target.the-variants.{Relative, Absolute, Displaced}
 
--- the table, in the order of document 01
+-- the 40 instructions, in the order of document 01
 unfoldable pub table : List Kind
 table =
     -- o 0 to A
@@ -71,19 +71,19 @@ table =
 
 -- where a word stands in the table; 40, past its end, for an undefined word
 -- ('B with b from B to F and C with b from C to F are undefined')
-unfoldable pub numberOf : ℕ → ℕ
-numberOf w =
+unfoldable pub placeOf : ℕ → ℕ
+placeOf w =
     cond (ltb (fieldO w) 11) (fieldO w)
     (cond (eqb (fieldO w) 11) (cond (ltb (fieldB w) 11) (11 + fieldB w) 40)
     (cond (eqb (fieldO w) 12) (cond (ltb (fieldB w) 12) (22 + fieldB w) 40)
     (cond (eqb (fieldO w) 13) 34
-    (cond (eqb (fieldO w) 14) (35 + fieldE w) 39))))
+    (cond (eqb (fieldO w) 14) (35 + bits11to10 w) 39))))
 
 -- which instruction a word is
 unfoldable pub kindOf : ℕ → Kind
-kindOf w = getD table (numberOf w) Undefined
+kindOf w = getD table (placeOf w) Undefined
 
--- where an instruction stands in the table; 40, past its end, for the undefined kind
+-- where the instructions of a class stand in the table
 abbrev pub binaryEntry : BinaryOp → ℕ
 binaryEntry Add = 0
 binaryEntry Sub = 1
@@ -104,28 +104,29 @@ unaryEntry Sr0 = 13
 unaryEntry Sr1 = 14
 unaryEntry Not = 15
 
-abbrev pub jumpEntry : Target → Condition → ℕ
-jumpEntry Relative Always = 22
-jumpEntry Relative Negative = 23
-jumpEntry Relative Zero = 24
-jumpEntry Relative Carry = 25
-jumpEntry Relative Overflow = 26
-jumpEntry Absolute Always = 27
-jumpEntry Absolute Negative = 28
-jumpEntry Absolute Zero = 29
-jumpEntry Absolute Carry = 30
-jumpEntry Absolute Overflow = 31
-jumpEntry Displaced Always = 34
-jumpEntry Displaced Negative = 35
-jumpEntry Displaced Zero = 36
-jumpEntry Displaced Carry = 37
-jumpEntry Displaced Overflow = 38
+abbrev pub jumpEntry : Condition → Target → ℕ
+jumpEntry Always Relative = 22
+jumpEntry Always Absolute = 27
+jumpEntry Always Displaced = 34
+jumpEntry Negative Relative = 23
+jumpEntry Negative Absolute = 28
+jumpEntry Negative Displaced = 35
+jumpEntry Zero Relative = 24
+jumpEntry Zero Absolute = 29
+jumpEntry Zero Displaced = 36
+jumpEntry Carry Relative = 25
+jumpEntry Carry Absolute = 30
+jumpEntry Carry Displaced = 37
+jumpEntry Overflow Relative = 26
+jumpEntry Overflow Absolute = 31
+jumpEntry Overflow Displaced = 38
 
 abbrev pub callEntry : Target → ℕ
 callEntry Relative = 32
 callEntry Absolute = 33
 callEntry Displaced = 39
 
+-- where an instruction stands in the table; 40, past its end, for the undefined kind
 abbrev pub entry : Kind → ℕ
 entry Undefined = 40
 entry (Binary op) = binaryEntry op
@@ -139,10 +140,11 @@ entry Ldsp = 18
 entry Rts = 19
 entry Pop = 20
 entry Push = 21
-entry (Jump condition target) = jumpEntry target condition
+entry (Jump condition target) = jumpEntry condition target
 entry (Call target) = callEntry target
 
--- the word of the table's entry n whose other fields are zero
+-- the word of the table's entry n with all other fields zero: by the same lines as `placeOf`, the other way round. No entry
+-- stands from 40 on: there it is F000, which nothing uses
 unfoldable pub wordOf : ℕ → ℕ
 wordOf n =
     cond (ltb n 11) (n * 0x1000)

@@ -4,18 +4,21 @@ use mathlib.Core.Logic.{_↔_, _⊎_}
 use mathlib.Core.Bool.{Bool}
 use Prim.Native.Nat.{ℕ, _+_, _*_, _≤_, _<_}
 use lib.Dec.{eqb}
-use lib.ListN.{getD}
+use lib.ListN.{length, getD}
 use Rattle.words.specs.Arithmetic.{bit}
 use Rattle.isa.specs.Fields.{fieldO, fieldB}
-use Rattle.isa.specs.Table.{table, numberOf, kindOf, entry}
+use Rattle.isa.specs.Table.{table, kindOf, entry}
 use Rattle.isa.specs.declared.Kind.{Kind}
 use Rattle.isa.specs.declared.Kind.the-variants.{Undefined}
 
--- each instruction stands in the table where `entry` says
-abbrev pub EntryInTable : Type 0
-EntryInTable = (k : Kind) → getD table (entry k) Undefined ≡ k
+-- the table has 40 entries; each kind is found where `entry` says, the undefined one past the end, and nowhere else (proved as
+-- `table-entries`)
+abbrev pub TableEntries : Type 0
+TableEntries =
+    (length table ≡ 40) × ((k : Kind) → getD table (entry k) Undefined ≡ k)
+    × ((n : ℕ) → n ≤ 40 → entry (getD table n Undefined) ≡ n)
 
--- 'B with b from B to F and C with b from C to F are undefined', and no other word is
+-- 'B with b from B to F and C with b from C to F are undefined', and no other word is (proved as `undefined-exactly`)
 abbrev pub UndefinedExactly : Type 0
 UndefinedExactly =
     (w : ℕ) → w < 65536 → (kindOf w ≡ Undefined) ↔ (((fieldO w ≡ 11) × (11 ≤ fieldB w)) ⊎ ((fieldO w ≡ 12) × (12 ≤ fieldB w)))
@@ -28,6 +31,7 @@ overDigits f =
 unfoldable pub howMany : (ℕ → Bool) → ℕ
 howMany test = overDigits λ o. overDigits λ t. overDigits λ a. overDigits λ b. bit (test (o * 4096 + t * 256 + a * 16 + b))
 
--- 2,304 of the 65,536 words are undefined
+-- 2,304 of the 65,536 words, five b's of B and four of C with any t and a, are of the undefined kind, which alone has entry 40
+-- (proved as `undefined-count`)
 abbrev pub UndefinedCount : Type 0
-UndefinedCount = howMany (λ w. eqb (numberOf w) 40) ≡ 2304
+UndefinedCount = howMany (λ w. eqb (entry (kindOf w)) 40) ≡ 2304

@@ -1,8 +1,8 @@
 // The instruction set of document 01: kinds, the one table, fields, conditions, targets and cycle counts.
 ghost use mathlib.Core.Path.{_≡_};
 ghost use Rattle.isa.specs.Fields.{fieldO, fieldT, fieldA, fieldB, fieldK, d10, d12};
-ghost use Rattle.isa.specs.Table.{numberOf, kindOf, wordOf};
-ghost use Rattle.isa.specs.Control.{taken, address, jumpTarget, callTarget, latchesTarget, secondRegister};
+ghost use Rattle.isa.specs.Table.{placeOf, kindOf, wordOf};
+ghost use Rattle.isa.specs.Control.{taken, address, jumpTarget, callTarget, latchesRt, secondRegister};
 ghost use Rattle.isa.specs.Cost.{countOf, jumpClass, classOf, costOf};
 
 pub enum BinaryOp {
@@ -169,8 +169,8 @@ pub fn field_d12(word: u16) -> u16
 }
 
 // Where a word stands in the table; 40 for an undefined word.
-fn number_of(word: u16) -> u8
-    ensures { λ r. ⌜ r ≡ numberOf word ⌝ }
+fn place_of(word: u16) -> u8
+    ensures { λ r. ⌜ r ≡ placeOf word ⌝ }
 {
     let o = field_o(word);
     let b = field_b(word);
@@ -196,15 +196,16 @@ fn number_of(word: u16) -> u8
 pub fn kind_of(word: u16) -> Kind
     ensures { λ r. ⌜ r ≡ kindOf word ⌝ }
 {
-    let n = number_of(word) as usize;
+    let n = place_of(word) as usize;
     if n < 40 { TABLE[n] } else { Kind::Undefined }
 }
 
-// The word of the table's entry at a number, all operands zero.
-pub fn word_of(number: u8) -> u16
-    ensures { λ r. ⌜ r ≡ wordOf number ⌝ }
+// The word of the table's entry at a place, all other fields zero. No entry stands from 40 on: there the answer is F000, which
+// nothing uses.
+pub fn word_of(place: u8) -> u16
+    ensures { λ r. ⌜ r ≡ wordOf place ⌝ }
 {
-    let n = number as u16;
+    let n = place as u16;
     if n < 11 {
         return n * 0x1000;
     }
@@ -260,9 +261,9 @@ pub fn call_target(target: Target, word: u16, pc: u16, register: u16) -> u16
     address_of(target, pc, register, field_d12(word))
 }
 
-// Does RB take Rt in cycle 2, and not Rb?
-fn latches_target(kind: Kind) -> bool
-    ensures { λ r. ⌜ r ≡ latchesTarget kind ⌝ }
+// Does RB take Rt, and not Rb?
+fn latches_rt(kind: Kind) -> bool
+    ensures { λ r. ⌜ r ≡ latchesRt kind ⌝ }
 {
     match kind {
         Kind::Undefined => false,
@@ -282,11 +283,12 @@ fn latches_target(kind: Kind) -> bool
     }
 }
 
-// The number of the register that cycle 2 latches into RB.
+// The number of the register that cycle 2 latches into RB. HALT and undefined words latch none: there the answer is b, which
+// nothing uses.
 pub fn second_register(kind: Kind, word: u16) -> u8
     ensures { λ r. ⌜ r ≡ secondRegister kind word ⌝ }
 {
-    if latches_target(kind) {
+    if latches_rt(kind) {
         field_t(word)
     } else {
         field_b(word)
@@ -306,10 +308,10 @@ fn count_of(class: Class) -> u32
     }
 }
 
-fn jump_class(taken: bool) -> Class
-    ensures { λ r. ⌜ r ≡ jumpClass taken ⌝ }
+fn jump_class(goes: bool) -> Class
+    ensures { λ r. ⌜ r ≡ jumpClass goes ⌝ }
 {
-    if taken { Class::Full } else { Class::Short }
+    if goes { Class::Full } else { Class::Short }
 }
 
 fn class_of(kind: Kind, flags: Flags) -> Class

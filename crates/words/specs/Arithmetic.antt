@@ -9,6 +9,7 @@ sum p q = (p + q) % 65536
 abbrev pub difference : ℕ → ℕ → ℕ
 difference p q = (p + (65536 - q)) % 65536
 
+-- bit by bit, as Theorems says
 unfoldable pub conjunction : ℕ → ℕ → ℕ
 conjunction p q = bitAnd p q
 

@@ -108,7 +108,7 @@ returns-14 : tie.Need-returns-14
 returns-14 c = rw (c .before .before .before .kind4 .given .1, c .enum-told11 .given .1)
 
 returns-15 : tie.Need-returns-15
-returns-15 c = rw (same (c .before .before .before .before .before .before .args .o .4) (omega (arith, c .struct-told .given)), c .before .before .before .before .kind4 .given .1, c .before .enum-told12 .given .1)
+returns-15 c = rw (same (c .before .before .before .before .before .before .args .x .4) (omega (arith, c .struct-told .given)), c .before .before .before .before .kind4 .given .1, c .before .enum-told12 .given .1)
 
 returns-16 : tie.Need-returns-16
 returns-16 c = rw (c .before .before .before .kind5 .given .1, c .enum-told13 .given .1)
@@ -117,7 +117,7 @@ returns-17 : tie.Need-returns-17
 returns-17 c = rw (c .before .before .before .kind5 .given .1, c .enum-told14 .given .1)
 
 returns-18 : tie.Need-returns-18
-returns-18 c = rw (same (c .before .before .before .before .before .before .args .o .5) (omega (arith, c .struct-told2 .given)), c .before .before .before .before .kind5 .given .1, c .before .enum-told15 .given .1)
+returns-18 c = rw (same (c .before .before .before .before .before .before .args .x .5) (omega (arith, c .struct-told2 .given)), c .before .before .before .before .kind5 .given .1, c .before .enum-told15 .given .1)
 
 pub form-with-spec : {M : Type 1} → statement M
 form-with-spec =

@@ -31,14 +31,14 @@ is-outside-requires c κs = search needs
 
 returns-5 : tie.Need-returns-5
 unfolding fault
-returns-5 c = let e : outside (negℤ (pos 512)) (pos 511) (c .before .before .before .before .before .before .before .before .before .before .before .args .o .4) ≡ true = ap (outside (negℤ (pos 512)) (pos 511)) (sym (same (c .before .before .before .before .before .before .before .before .before .before .before .args .o .4) (omega (arith, c .before .before .struct-told .given)))) ∙ sym (c .before .is-outside .ensures) ∙ c .if5 .taken in rw (le-ltb _ _ (c .before .before .before .before .before .before .before .before .before .if1 .left), le-ltb _ _ (c .before .before .before .before .before .before .before .if2 .left), le-ltb _ _ (c .before .before .before .before .before .if3 .left), le-ltb _ _ (c .before .before .before .if4 .left), e)
+returns-5 c = let e : outside (negℤ (pos 512)) (pos 511) (c .before .before .before .before .before .before .before .before .before .before .before .args .x .4) ≡ true = ap (outside (negℤ (pos 512)) (pos 511)) (sym (same (c .before .before .before .before .before .before .before .before .before .before .before .args .x .4) (omega (arith, c .before .before .struct-told .given)))) ∙ sym (c .before .is-outside .ensures) ∙ c .if5 .taken in rw (le-ltb _ _ (c .before .before .before .before .before .before .before .before .before .if1 .left), le-ltb _ _ (c .before .before .before .before .before .before .before .if2 .left), le-ltb _ _ (c .before .before .before .before .before .if3 .left), le-ltb _ _ (c .before .before .before .if4 .left), e)
 
 is-outside-requires-2 : tie.Need-is-outside-requires-2
 is-outside-requires-2 c κs = search needs
 
 returns-6 : tie.Need-returns-6
 unfolding fault
-returns-6 c = let e : outside (negℤ (pos 512)) (pos 511) (c .before .before .before .before .before .before .before .before .before .before .before .before .before .args .o .4) ≡ false = ap (outside (negℤ (pos 512)) (pos 511)) (sym (same (c .before .before .before .before .before .before .before .before .before .before .before .before .before .args .o .4) (omega (arith, c .before .before .before .before .struct-told .given)))) ∙ sym (c .before .before .before .is-outside .ensures) ∙ c .before .before .if5 .left in rw (le-ltb _ _ (c .before .before .before .before .before .before .before .before .before .before .before .if1 .left), le-ltb _ _ (c .before .before .before .before .before .before .before .before .before .if2 .left), le-ltb _ _ (c .before .before .before .before .before .before .before .if3 .left), le-ltb _ _ (c .before .before .before .before .before .if4 .left), e) (c .is-outside2 .ensures ∙ ap (outside (negℤ (pos 2048)) (pos 2047)) (same (c .before .before .before .before .before .before .before .before .before .before .before .before .before .args .o .5) (omega (arith, c .before .struct-told2 .given))))
+returns-6 c = let e : outside (negℤ (pos 512)) (pos 511) (c .before .before .before .before .before .before .before .before .before .before .before .before .before .args .x .4) ≡ false = ap (outside (negℤ (pos 512)) (pos 511)) (sym (same (c .before .before .before .before .before .before .before .before .before .before .before .before .before .args .x .4) (omega (arith, c .before .before .before .before .struct-told .given)))) ∙ sym (c .before .before .before .is-outside .ensures) ∙ c .before .before .if5 .left in rw (le-ltb _ _ (c .before .before .before .before .before .before .before .before .before .before .before .if1 .left), le-ltb _ _ (c .before .before .before .before .before .before .before .before .before .if2 .left), le-ltb _ _ (c .before .before .before .before .before .before .before .if3 .left), le-ltb _ _ (c .before .before .before .before .before .if4 .left), e) (c .is-outside2 .ensures ∙ ap (outside (negℤ (pos 2048)) (pos 2047)) (same (c .before .before .before .before .before .before .before .before .before .before .before .before .before .args .x .5) (omega (arith, c .before .struct-told2 .given))))
 
 pub has-fault-spec : {M : Type 1} → statement M
 has-fault-spec =

@@ -56,7 +56,7 @@ cast-result c = search needs
 
 returns : tie.Need-returns
 unfolding placed
-returns c = rw (c .before .before .before .before .before .before .unsigned-of .ensures, c .before .before .before .before .unsigned-of2 .ensures, same (c .before .before .before .before .before .before .before .before .args .o .4) (omega (arith, c .before .before .before .before .before .before .before .struct-told .given)), same (c .before .before .before .before .before .before .before .before .args .o .5) (omega (arith, c .before .before .before .before .before .struct-told2 .given)))
+returns c = rw (c .before .before .before .before .before .before .unsigned-of .ensures, c .before .before .before .before .unsigned-of2 .ensures, same (c .before .before .before .before .before .before .before .before .args .x .4) (omega (arith, c .before .before .before .before .before .before .before .struct-told .given)), same (c .before .before .before .before .before .before .before .before .args .x .5) (omega (arith, c .before .before .before .before .before .struct-told2 .given)))
 
 pub placed-of-spec : {M : Type 1} → statement M
 placed-of-spec =

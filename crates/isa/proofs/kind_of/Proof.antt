@@ -10,8 +10,8 @@ use Rattle.isa.proofs.Table.{kind-past}
 use Rattle.isa.proofs.kind_of.Statement.{statement}
 use Rattle.isa.proofs.kind_of.Tie as tie
 
-number-of-requires : tie.Need-number-of-requires
-number-of-requires c κs = search needs
+place-of-requires : tie.Need-place-of-requires
+place-of-requires c κs = search needs
 
 cast-n : tie.Need-cast-n
 cast-n c = search needs
@@ -24,7 +24,7 @@ array-copy-out-result c = search needs
 
 returns : tie.Need-returns
 unfolding kindOf table
-returns c = ap (λ (n : ℕ). getD table n Undefined) (c .before .before .number-of .ensures)
+returns c = ap (λ (n : ℕ). getD table n Undefined) (c .before .before .place-of .ensures)
 
 returns-2 : tie.Need-returns-2
 returns-2 c = sym (kind-past (c .before .before .args .word) (omega arith))
@@ -32,4 +32,4 @@ returns-2 c = sym (kind-past (c .before .before .args .word) (omega arith))
 pub kind-of-spec : {M : Type 1} → statement M
 kind-of-spec =
     tie.close
-    (tie.spec number-of-requires cast-n mul-result array-copy-out-result returns returns-2)
+    (tie.spec place-of-requires cast-n mul-result array-copy-out-result returns returns-2)

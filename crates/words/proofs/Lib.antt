@@ -1,0 +1,2 @@
+-- The theorems on the bits of words.
+pub mod Theorems
