@@ -1,8 +1,8 @@
 -- Document 01, 'Instruction table' and 'Datapath cycles': when and where jumps and calls go, and the register that RB takes.
 use Prim.Native.Nat.{ℕ}
-use mathlib.Core.Bool.{Bool, true, false, cond}
+use mathlib.Core.Bool.{Bool, true}
 use Rattle.words.specs.Arithmetic.{sum}
-use Rattle.isa.specs.Fields.{fieldT, fieldB, d10, d12}
+use Rattle.isa.specs.Fields.{d10, d12}
 use Rattle.isa.specs.declared.Flags.{Flags}
 use Rattle.isa.specs.declared.Condition.{Condition}
 use Rattle.isa.specs.declared.Condition.the-variants.{Always, Negative, Zero, Carry, Overflow}
@@ -32,24 +32,20 @@ jumpTarget target w pc register = address target pc register (d10 w)
 abbrev pub callTarget : Target → ℕ → ℕ → ℕ → ℕ
 callTarget target w pc register = address target pc register (d12 w)
 
--- cycle 2: 'RB takes Rt for ADDI, SUBI, LDL, LDH, PUSH, else Rb'. HALT and undefined words stop there and latch nothing: what
--- these definitions say of them is not used
-abbrev pub latchesRt : Kind → Bool
-latchesRt Undefined = false
-latchesRt (Binary op) = false
-latchesRt (Constant op) = true
-latchesRt Ld = false
-latchesRt St = false
-latchesRt (Unary op) = false
-latchesRt Nop = false
-latchesRt Halt = false
-latchesRt Ldsp = false
-latchesRt Rts = false
-latchesRt Pop = false
-latchesRt Push = true
-latchesRt (Jump condition target) = false
-latchesRt (Call target) = false
-
--- the number of the register that RB takes
-abbrev pub secondRegister : Kind → ℕ → ℕ
-secondRegister kind w = cond (latchesRt kind) (fieldT w) (fieldB w)
+-- cycle 2: 'RB takes Rt for ADDI, SUBI, LDL, LDH, PUSH, else Rb', by the fields t and b. HALT and undefined words stop there and
+-- latch nothing: what is said of them is not used
+abbrev pub secondRegister : Kind → ℕ → ℕ → ℕ
+secondRegister Undefined t b = b
+secondRegister (Binary op) t b = b
+secondRegister (Constant op) t b = t
+secondRegister Ld t b = b
+secondRegister St t b = b
+secondRegister (Unary op) t b = b
+secondRegister Nop t b = b
+secondRegister Halt t b = b
+secondRegister Ldsp t b = b
+secondRegister Rts t b = b
+secondRegister Pop t b = b
+secondRegister Push t b = t
+secondRegister (Jump condition target) t b = b
+secondRegister (Call target) t b = b

@@ -2,7 +2,7 @@
 ghost use mathlib.Core.Path.{_≡_};
 ghost use Rattle.isa.specs.Fields.{fieldO, fieldT, fieldA, fieldB, fieldK, d10, d12};
 ghost use Rattle.isa.specs.Table.{placeOf, kindOf, wordOf};
-ghost use Rattle.isa.specs.Control.{taken, address, jumpTarget, callTarget, latchesRt, secondRegister};
+ghost use Rattle.isa.specs.Control.{taken, address, jumpTarget, callTarget, secondRegister};
 ghost use Rattle.isa.specs.Cost.{countOf, jumpClass, classOf, costOf};
 
 pub enum BinaryOp {
@@ -261,37 +261,26 @@ pub fn call_target(target: Target, word: u16, pc: u16, register: u16) -> u16
     address_of(target, pc, register, field_d12(word))
 }
 
-// Does RB take Rt, and not Rb?
-fn latches_rt(kind: Kind) -> bool
-    ensures { λ r. ⌜ r ≡ latchesRt kind ⌝ }
+// Which of the fields t and b names the register that cycle 2 latches into RB. HALT and undefined words latch none: there the
+// answer is b, which nothing uses.
+pub fn second_register(kind: Kind, t: u8, b: u8) -> u8
+    ensures { λ r. ⌜ r ≡ secondRegister kind t b ⌝ }
 {
     match kind {
-        Kind::Undefined => false,
-        Kind::Binary(_) => false,
-        Kind::Constant(_) => true,
-        Kind::Ld => false,
-        Kind::St => false,
-        Kind::Unary(_) => false,
-        Kind::Nop => false,
-        Kind::Halt => false,
-        Kind::Ldsp => false,
-        Kind::Rts => false,
-        Kind::Pop => false,
-        Kind::Push => true,
-        Kind::Jump(_, _) => false,
-        Kind::Call(_) => false,
-    }
-}
-
-// The number of the register that cycle 2 latches into RB. HALT and undefined words latch none: there the answer is b, which
-// nothing uses.
-pub fn second_register(kind: Kind, word: u16) -> u8
-    ensures { λ r. ⌜ r ≡ secondRegister kind word ⌝ }
-{
-    if latches_rt(kind) {
-        field_t(word)
-    } else {
-        field_b(word)
+        Kind::Undefined => b,
+        Kind::Binary(_) => b,
+        Kind::Constant(_) => t,
+        Kind::Ld => b,
+        Kind::St => b,
+        Kind::Unary(_) => b,
+        Kind::Nop => b,
+        Kind::Halt => b,
+        Kind::Ldsp => b,
+        Kind::Rts => b,
+        Kind::Pop => b,
+        Kind::Push => t,
+        Kind::Jump(_, _) => b,
+        Kind::Call(_) => b,
     }
 }
 

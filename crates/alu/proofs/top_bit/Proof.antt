@@ -1,0 +1,10 @@
+-- `alu::top_bit` meets its contract: the search closes each need. Assumes nothing.
+use borrow.Author.Needs.{needs}
+use Rattle.alu.proofs.top_bit.Statement.{statement}
+use Rattle.alu.proofs.top_bit.Tie as tie
+
+returns : tie.Need-returns
+returns c = search needs
+
+pub top-bit-spec : {M : Type 1} → statement M
+top-bit-spec = tie.close (tie.spec returns)
