@@ -8,7 +8,7 @@ use lib.Dec.{ltb}
 use lib.IntN.{pos, negsuc}
 use borrow.Author.Tests.{le-ltb, ltb-false}
 use Rattle.words.specs.Arithmetic.{sum}
-use Rattle.isa.specs.Table.{wordOf}
+use Rattle.table.specs.Table.{wordOf}
 use Rattle.forms.specs.declared.Operands.{Operands}
 use Rattle.forms.specs.Answers.{Answer, given, refused}
 use Rattle.forms.specs.Operands.{outside, fault, placed}

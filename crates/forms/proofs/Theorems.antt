@@ -9,15 +9,15 @@ use mir.Syntax.{w16}
 use mir.ValLaws.{ofZ-toZ}
 use Rattle.words.specs.Arithmetic.{sum}
 use Rattle.isa.specs.Fields.{fieldT, fieldA, fieldB, bits11to10, fieldK, extended, d10, d12}
-use Rattle.isa.specs.Table.{placeOf, kindOf, entry, wordOf}
+use Rattle.table.specs.Table.{placeOf, kindOf, entry, wordOf}
 use Rattle.isa.specs.declared.Kind.{Kind}
 use Rattle.isa.specs.declared.Kind.the-variants.{Undefined, Binary, Constant, Ld, St, Unary, Nop, Halt, Ldsp, Rts, Pop, Push, Jump, Call}
 use Rattle.isa.specs.declared.Condition.{Condition}
 use Rattle.isa.specs.declared.Condition.the-variants.{Always, Negative, Zero, Carry, Overflow}
 use Rattle.isa.specs.declared.Target.the-variants.{Relative, Absolute, Displaced}
-use Rattle.isa.proofs.Lines.{Line, place-word-O, place-word-BC, place-word-DE, place-word-F, word-le, word-BC, word-DE}
-use Rattle.isa.proofs.Table.{word-O, word-F}
-use Rattle.isa.proofs.Entries.{kind-by-place, binary-on-O, constant-on-O, unary-on-B, jump-on, line-of}
+use Rattle.table.proofs.Lines.{Line, place-word-O, place-word-BC, place-word-DE, place-word-F, word-le, word-BC, word-DE}
+use Rattle.table.proofs.Table.{word-O, word-F}
+use Rattle.table.proofs.Entries.{kind-by-place, binary-on-O, constant-on-O, unary-on-B, jump-on, line-of}
 use Rattle.forms.specs.declared.Form.{Form}
 use Rattle.forms.specs.declared.Operands.{Operands}
 use Rattle.forms.specs.Answers.{Answer, given, refused}

@@ -1,6 +1,6 @@
 -- Document 01, 'Instruction table': word to form, by the table.
 use Prim.Native.Nat.{ℕ}
-use Rattle.isa.specs.Table.{kindOf}
+use Rattle.table.specs.Table.{kindOf}
 use Rattle.isa.specs.declared.Kind.{Kind}
 use Rattle.isa.specs.declared.Target.{Target}
 use Rattle.forms.specs.declared.Form.{Form}

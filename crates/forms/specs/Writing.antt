@@ -1,10 +1,10 @@
 -- Document 01, 'Instruction table': form to word, by the same table (that `entry` and `wordOf` are its inverse is shown in
--- `isa`, and that both ways meet in Theorems); the fields that it does not use are zero.
+-- `table`, and that both ways meet in Theorems); the fields that it does not use are zero.
 use Prim.Native.Nat.{ℕ}
 use mathlib.Core.Bool.{cond}
 use lib.IntN.{pos}
 use Rattle.words.specs.Arithmetic.{sum}
-use Rattle.isa.specs.Table.{entry, wordOf}
+use Rattle.table.specs.Table.{entry, wordOf}
 use Rattle.isa.specs.declared.Kind.{Kind}
 use Rattle.isa.specs.declared.Target.{Target}
 use Rattle.forms.specs.declared.Form.{Form}

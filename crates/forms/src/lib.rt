@@ -1,11 +1,11 @@
-// Instruction words and forms: word to form and form to word, by the table of `isa`.
+// Instruction words and forms: word to form and form to word, by the table of `table`.
 ghost use mathlib.Core.Path.{_≡_};
 ghost use Prim.Native.Nat.{_%_};
 ghost use Rattle.forms.specs.Answers.{formAnswer, wordAnswer};
 ghost use Rattle.forms.specs.Operands.{signed, unsigned, operandsOf, outside, fault, placed};
 ghost use Rattle.forms.specs.Reading.{formWith, wordToForm};
 ghost use Rattle.forms.specs.Writing.{writtenAt, formToWord};
-ghost use Rattle.isa.specs.Table.{binaryEntry, constantEntry, unaryEntry, jumpEntry};
+ghost use Rattle.table.specs.Table.{binaryEntry, constantEntry, unaryEntry, jumpEntry};
 ghost use Rattle.isa.specs.declared.Target.the-variants.{Relative, Absolute, Displaced};
 use isa::BinaryOp;
 use isa::Condition;
@@ -144,7 +144,7 @@ fn form_with(kind: Kind, x: Operands) -> FormAnswer
 pub fn word_to_form(word: u16) -> FormAnswer
     ensures { λ r. ⌜ formAnswer r ≡ wordToForm word ⌝ }
 {
-    form_with(isa::kind_of(word), operands_of(word))
+    form_with(table::kind_of(word), operands_of(word))
 }
 
 fn binary_entry(op: BinaryOp) -> u8
@@ -265,7 +265,7 @@ fn write(entry: u8, x: Operands) -> WordAnswer
     if has_fault(x) {
         return WordAnswer::OutOfRange;
     }
-    WordAnswer::Written(words::add(isa::word_of(entry), placed_of(x)))
+    WordAnswer::Written(words::add(table::word_of(entry), placed_of(x)))
 }
 
 // Form to word: the word, its unused fields zero, or number 5.

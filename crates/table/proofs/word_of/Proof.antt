@@ -1,9 +1,9 @@
--- `isa::word_of` meets its contract: a law of the table's lines for each return. Assumes nothing.
+-- `table::word_of` meets its contract: a law of the table's lines for each return. Assumes nothing.
 use mathlib.Core.Path.{sym}
 use borrow.Author.Needs.{needs}
-use Rattle.isa.proofs.Table.{word-O, word-B, word-C, word-D, word-E, word-F}
-use Rattle.isa.proofs.word_of.Statement.{statement}
-use Rattle.isa.proofs.word_of.Tie as tie
+use Rattle.table.proofs.Table.{word-O, word-B, word-C, word-D, word-E, word-F}
+use Rattle.table.proofs.word_of.Statement.{statement}
+use Rattle.table.proofs.word_of.Tie as tie
 
 mul-result : tie.Need-mul-result
 mul-result c = search needs

@@ -6,10 +6,10 @@ use Prim.Native.Nat.{ℕ, _+_, _*_, _≤_, _<_}
 use lib.Dec.{eqb}
 use lib.ListN.{length, getD}
 use Rattle.words.specs.Arithmetic.{bit}
 use Rattle.isa.specs.Fields.{fieldO, fieldB}
-use Rattle.isa.specs.Table.{table, kindOf, entry}
+use Rattle.table.specs.Table.{table, kindOf, entry}
 use Rattle.isa.specs.declared.Kind.{Kind}
 use Rattle.isa.specs.declared.Kind.the-variants.{Undefined}
 
 -- the table has 40 entries; each kind is found where `entry` says, the undefined one past the end, and nowhere else (proved as
 -- `table-entries`)

@@ -5,9 +5,9 @@ use Prim.Native.Nat.{ℕ, _+_, _-_, _*_, _≤_, _<_}
 use native.Mathlib.Omega.{arith}
 use lib.ListN.{List·getD-eq-default}
 use borrow.Author.Tests.{lt-ltb, le-ltb}
 use Rattle.isa.specs.Fields.{fieldO, fieldB, bits11to10}
-use Rattle.isa.specs.Table.{table, placeOf, kindOf, wordOf}
+use Rattle.table.specs.Table.{table, placeOf, kindOf, wordOf}
 use Rattle.isa.specs.declared.Kind.the-variants.{Undefined}
 
 module _ (w : ℕ) where
   pub place-O : fieldO w < 11 → placeOf w ≡ fieldO w

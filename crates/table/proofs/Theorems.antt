@@ -7,13 +7,13 @@ use native.Mathlib.Omega.{arith}
 use lib.Dec.{eqb, leb, lit<}
 use borrow.Author.Tests.{le-leb, lt-leb, ne-eqb}
 use Rattle.words.specs.Arithmetic.{bit}
 use Rattle.isa.specs.Fields.{fieldO, fieldB, bits11to10}
-use Rattle.isa.specs.Table.{table, placeOf, kindOf, entry}
-use Rattle.isa.specs.Theorems.{TableEntries, UndefinedExactly, overDigits, howMany, UndefinedCount}
+use Rattle.table.specs.Table.{table, placeOf, kindOf, entry}
+use Rattle.table.specs.Theorems.{TableEntries, UndefinedExactly, overDigits, howMany, UndefinedCount}
 use Rattle.isa.specs.declared.Kind.the-variants.{Undefined}
-use Rattle.isa.proofs.Table.{place-O, place-B, place-B-undefined, place-C, place-C-undefined, place-D, place-E, place-F, kind-past}
-use Rattle.isa.proofs.Lines.{by-line}
-use Rattle.isa.proofs.Entries.{kind-at, entry-at, entry-kind}
+use Rattle.table.proofs.Table.{place-O, place-B, place-B-undefined, place-C, place-C-undefined, place-D, place-E, place-F, kind-past}
+use Rattle.table.proofs.Lines.{by-line}
+use Rattle.table.proofs.Entries.{kind-at, entry-at, entry-kind}
 
 pub table-entries : TableEntries
 unfolding table

@@ -3,9 +3,9 @@ use mathlib.Core.Path.{_≡_, _∙_}
 use Prim.Native.Nat.{ℕ, _+_, _-_, _*_, _/_, _%_, _≤_, _<_}
 use native.Mathlib.Omega.{arith}
 use native.Mathlib.Decide.{decLt, ℕ-discrete}
 use Rattle.isa.specs.Fields.{fieldO, fieldB, bits11to10}
-use Rattle.isa.specs.Table.{placeOf, wordOf}
-use Rattle.isa.proofs.Table.{place-O, place-B, place-B-undefined, place-C, place-C-undefined, place-D, place-E, place-F, word-O, word-B, word-C, word-D, word-E, word-F}
+use Rattle.table.specs.Table.{placeOf, wordOf}
+use Rattle.table.proofs.Table.{place-O, place-B, place-B-undefined, place-C, place-C-undefined, place-D, place-E, place-F, word-O, word-B, word-C, word-D, word-E, word-F}
 
 -- an argument by the lines of the table
 pub by-line : (w : ℕ) → w < 65536 → {P : Type 0} → (fieldO w < 11 → P) → (fieldO w ≡ 11 → fieldB w < 11 → P)

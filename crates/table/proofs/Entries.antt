@@ -7,20 +7,20 @@ use native.Mathlib.Nat.{add-zero, add-suc, suc-add, le-of-suc-le-suc, not-suc-le
 use native.Mathlib.Omega.{arith}
 use lib.Dec.{T, eqb, eqb→eq, lit<, lit≤}
 use lib.ListN.{length, getD, List·getD-map}
-use Rattle.isa.specs.Table.{table, placeOf, kindOf, binaryEntry, constantEntry, unaryEntry, jumpEntry, entry}
+use Rattle.table.specs.Table.{table, placeOf, kindOf, binaryEntry, constantEntry, unaryEntry, jumpEntry, entry}
 use Rattle.isa.specs.declared.Kind.{Kind}
 use Rattle.isa.specs.declared.Kind.the-variants.{Undefined, Binary, Constant, Ld, St, Unary, Nop, Halt, Ldsp, Rts, Pop, Push, Jump, Call}
 use Rattle.isa.specs.declared.BinaryOp.{BinaryOp}
 use Rattle.isa.specs.declared.BinaryOp.the-variants.{Add, Sub, And, Or, Xor}
 use Rattle.isa.specs.declared.ConstantOp.{ConstantOp}
 use Rattle.isa.specs.declared.ConstantOp.the-variants.{Addi, Subi, Ldl, Ldh}
 use Rattle.isa.specs.declared.UnaryOp.{UnaryOp}
 use Rattle.isa.specs.declared.UnaryOp.the-variants.{Sl0, Sl1, Sr0, Sr1, Not}
 use Rattle.isa.specs.declared.Condition.{Condition}
 use Rattle.isa.specs.declared.Condition.the-variants.{Always, Negative, Zero, Carry, Overflow}
 use Rattle.isa.specs.declared.Target.{Target}
 use Rattle.isa.specs.declared.Target.the-variants.{Relative, Absolute, Displaced}
-use Rattle.isa.proofs.Lines.{place-le, Line, line}
+use Rattle.table.proofs.Lines.{place-le, Line, line}
 
 -- the list counts up from i
 counts : ℕ → List ℕ → Bool

@@ -1,11 +1,11 @@
--- `isa::place_of` meets its contract: a law of the table's lines for each return. Assumes nothing.
+-- `table::place_of` meets its contract: a law of the table's lines for each return. Assumes nothing.
 use mathlib.Core.Path.{sym, ap, _∙_}
 use Prim.Native.Nat.{ℕ, _+_}
 use native.Mathlib.Omega.{arith}
 use borrow.Author.Needs.{needs}
-use Rattle.isa.proofs.Table.{place-O, place-B, place-B-undefined, place-C, place-C-undefined, place-D, place-E, place-F}
-use Rattle.isa.proofs.place_of.Statement.{statement}
-use Rattle.isa.proofs.place_of.Tie as tie
+use Rattle.table.proofs.Table.{place-O, place-B, place-B-undefined, place-C, place-C-undefined, place-D, place-E, place-F}
+use Rattle.table.proofs.place_of.Statement.{statement}
+use Rattle.table.proofs.place_of.Tie as tie
 
 field-o-requires : tie.Need-field-o-requires
 field-o-requires c κs = search needs

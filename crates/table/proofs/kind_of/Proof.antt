@@ -1,14 +1,14 @@
--- `isa::kind_of` meets its contract: its array is the table. Assumes nothing.
+-- `table::kind_of` meets its contract: its array is the table. Assumes nothing.
 use mathlib.Core.Path.{sym, ap}
 use Prim.Native.Nat.{ℕ}
 use native.Mathlib.Omega.{arith}
 use lib.ListN.{getD}
 use borrow.Author.Needs.{needs}
-use Rattle.isa.specs.Table.{table, kindOf}
+use Rattle.table.specs.Table.{table, kindOf}
 use Rattle.isa.specs.declared.Kind.the-variants.{Undefined}
-use Rattle.isa.proofs.Table.{kind-past}
-use Rattle.isa.proofs.kind_of.Statement.{statement}
-use Rattle.isa.proofs.kind_of.Tie as tie
+use Rattle.table.proofs.Table.{kind-past}
+use Rattle.table.proofs.kind_of.Statement.{statement}
+use Rattle.table.proofs.kind_of.Tie as tie
 
 place-of-requires : tie.Need-place-of-requires
 place-of-requires c κs = search needs

@@ -1,5 +1,0 @@
--- Laws of `isa`'s definitions that its own proofs and those of other crates cite.
-pub mod Table
-pub mod Lines
-pub mod Entries
-pub mod Theorems
