@@ -6,6 +6,7 @@ ghost use Rattle.forms.specs.Operands.{signed, unsigned, operandsOf, out
 ghost use Rattle.forms.specs.Reading.{formWith, wordToForm};
 ghost use Rattle.forms.specs.Writing.{writtenAt, formToWord};
 ghost use Rattle.table.specs.Table.{binaryEntry, constantEntry, unaryEntry, jumpEntry};
+ghost use Rattle.isa.specs.declared.Kind.the-variants.{Jump, Call};
 ghost use Rattle.isa.specs.declared.Target.the-variants.{Relative, Absolute, Displaced};
 use isa::BinaryOp;
 use isa::Condition;
@@ -81,6 +82,35 @@ fn operands_of(word: u16) -> Operands
     Operands(t, a, b, k, d10, d12)
 }
 
+fn jump_form(condition: Condition, target: Target, x: Operands) -> FormAnswer
+    ensures { λ r. ⌜ formAnswer r ≡ formWith (Jump condition target) x ⌝ }
+{
+    match target {
+        Target::Relative => FormAnswer::Read(Form::JumpRelative {
+            condition: condition,
+            a: x.1,
+        }),
+        Target::Absolute => FormAnswer::Read(Form::JumpAbsolute {
+            condition: condition,
+            a: x.1,
+        }),
+        Target::Displaced => FormAnswer::Read(Form::JumpDisplaced {
+            condition: condition,
+            d10: x.4,
+        }),
+    }
+}
+
+fn call_form(target: Target, x: Operands) -> FormAnswer
+    ensures { λ r. ⌜ formAnswer r ≡ formWith (Call target) x ⌝ }
+{
+    match target {
+        Target::Relative => FormAnswer::Read(Form::CallRelative { a: x.1 }),
+        Target::Absolute => FormAnswer::Read(Form::CallAbsolute { a: x.1 }),
+        Target::Displaced => FormAnswer::Read(Form::CallDisplaced { d12: x.5 }),
+    }
+}
+
 fn form_with(kind: Kind, x: Operands) -> FormAnswer
     ensures { λ r. ⌜ formAnswer r ≡ formWith kind x ⌝ }
 {
@@ -118,25 +148,8 @@ fn form_with(kind: Kind, x: Operands) -> FormAnswer
         Kind::Rts => FormAnswer::Read(Form::Rts),
         Kind::Pop => FormAnswer::Read(Form::Pop { t: x.0 }),
         Kind::Push => FormAnswer::Read(Form::Push { t: x.0 }),
-        Kind::Jump(condition, target) => match target {
-            Target::Relative => FormAnswer::Read(Form::JumpRelative {
-                condition: condition,
-                a: x.1,
-            }),
-            Target::Absolute => FormAnswer::Read(Form::JumpAbsolute {
-                condition: condition,
-                a: x.1,
-            }),
-            Target::Displaced => FormAnswer::Read(Form::JumpDisplaced {
-                condition: condition,
-                d10: x.4,
-            }),
-        },
-        Kind::Call(target) => match target {
-            Target::Relative => FormAnswer::Read(Form::CallRelative { a: x.1 }),
-            Target::Absolute => FormAnswer::Read(Form::CallAbsolute { a: x.1 }),
-            Target::Displaced => FormAnswer::Read(Form::CallDisplaced { d12: x.5 }),
-        },
+        Kind::Jump(condition, target) => jump_form(condition, target, x),
+        Kind::Call(target) => call_form(target, x),
     }
 }
 

@@ -1,7 +1,5 @@
--- `forms::form_with` meets its contract: by cases on the kind; a displacement goes through its bits. Assumes nothing.
-use native.Mathlib.Omega.{arith}
+-- `forms::form_with` meets its contract: by cases on the kind. Assumes nothing.
 use borrow.Author.Needs.{needs}
-use Rattle.forms.proofs.Signed.{same}
 use Rattle.forms.proofs.form_with.Statement.{statement}
 use Rattle.forms.proofs.form_with.Tie as tie
 
@@ -44,26 +42,14 @@ enum-told-9 c = search needs
 enum-known-kind-4 : tie.Need-enum-known-kind-4
 enum-known-kind-4 c = search needs
 
-enum-told-10 : tie.Need-enum-told-10
-enum-told-10 c = search needs
-
-enum-told-11 : tie.Need-enum-told-11
-enum-told-11 c = search needs
-
-enum-told-12 : tie.Need-enum-told-12
-enum-told-12 c = search needs
+jump-form-requires : tie.Need-jump-form-requires
+jump-form-requires c κs = search needs
 
 enum-known-kind-5 : tie.Need-enum-known-kind-5
 enum-known-kind-5 c = search needs
 
-enum-told-13 : tie.Need-enum-told-13
-enum-told-13 c = search needs
-
-enum-told-14 : tie.Need-enum-told-14
-enum-told-14 c = search needs
-
-enum-told-15 : tie.Need-enum-told-15
-enum-told-15 c = search needs
+call-form-requires : tie.Need-call-form-requires
+call-form-requires c κs = search needs
 
 returns : tie.Need-returns
 returns c = search needs
@@ -102,22 +88,10 @@ returns-12 : tie.Need-returns-12
 returns-12 c = rw (c .enum-told9 .given .1)
 
 returns-13 : tie.Need-returns-13
-returns-13 c = rw (c .before .before .before .kind4 .given .1, c .enum-told10 .given .1)
+returns-13 c = rw (c .before .before .kind4 .given .1) (c .jump-form .ensures)
 
 returns-14 : tie.Need-returns-14
-returns-14 c = rw (c .before .before .before .kind4 .given .1, c .enum-told11 .given .1)
-
-returns-15 : tie.Need-returns-15
-returns-15 c = rw (same (c .before .before .before .before .before .before .args .x .4) (omega (arith, c .struct-told .given)), c .before .before .before .before .kind4 .given .1, c .before .enum-told12 .given .1)
-
-returns-16 : tie.Need-returns-16
-returns-16 c = rw (c .before .before .before .kind5 .given .1, c .enum-told13 .given .1)
-
-returns-17 : tie.Need-returns-17
-returns-17 c = rw (c .before .before .before .kind5 .given .1, c .enum-told14 .given .1)
-
-returns-18 : tie.Need-returns-18
-returns-18 c = rw (same (c .before .before .before .before .before .before .args .x .5) (omega (arith, c .struct-told2 .given)), c .before .before .before .before .kind5 .given .1, c .before .enum-told15 .given .1)
+returns-14 c = rw (c .before .before .kind5 .given .1) (c .call-form .ensures)
 
 pub form-with-spec : {M : Type 1} → statement M
 form-with-spec =
@@ -136,13 +110,9 @@ form-with-spec =
     enum-told-8
     enum-told-9
     enum-known-kind-4
-    enum-told-10
-    enum-told-11
-    enum-told-12
+    jump-form-requires
     enum-known-kind-5
-    enum-told-13
-    enum-told-14
-    enum-told-15
+    call-form-requires
     returns
     returns-2
     returns-3
@@ -156,8 +126,4 @@ form-with-spec =
     returns-11
     returns-12
     returns-13
-    returns-14
-    returns-15
-    returns-16
-    returns-17
-    returns-18)
+    returns-14)

@@ -4,8 +4,8 @@ use Prim.Native.Nat.{ℕ}
 use native.Mathlib.Omega.{arith}
 use lib.ListN.{getD}
 use borrow.Author.Needs.{needs}
-use Rattle.table.specs.Table.{table, kindOf}
 use Rattle.isa.specs.declared.Kind.the-variants.{Undefined}
+use Rattle.table.specs.Table.{table, kindOf}
 use Rattle.table.proofs.Table.{kind-past}
 use Rattle.table.proofs.kind_of.Statement.{statement}
 use Rattle.table.proofs.kind_of.Tie as tie
