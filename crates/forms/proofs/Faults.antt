@@ -27,12 +27,6 @@ pub record Sound (o : Operands) : Type 0 where
   pub short : outside (negsuc 511) (pos 511) (o .4) ≡ false
   pub long : outside (negsuc 2047) (pos 2047) (o .5) ≡ false
 
-pub no-fault : (o : Operands) → Sound o → fault o ≡ false
-unfolding fault
-no-fault o s =
-    rw
-    (le-ltb 15 (o .0) (s .t), le-ltb 15 (o .1) (s .a), le-ltb 15 (o .2) (s .b), le-ltb 255 (o .3) (s .k), s .short, s .long)
-
 pub sound : (o : Operands) → fault o ≡ false → Sound o
 unfolding fault
 sound o e =
@@ -49,6 +43,12 @@ sound o e =
       short = e₅ .0;
       long = e₅ .1;
     }
+
+pub no-fault : (o : Operands) → Sound o → fault o ≡ false
+unfolding fault
+no-fault o s =
+    rw
+    (le-ltb 15 (o .0) (s .t), le-ltb 15 (o .1) (s .a), le-ltb 15 (o .2) (s .b), le-ltb 255 (o .3) (s .k), s .short, s .long)
 
 -- sound operands are written, and only they are
 pub writes : (n : ℕ) (o : Operands) → Sound o → writtenAt n o ≡ given (sum (wordOf n) (placed o))

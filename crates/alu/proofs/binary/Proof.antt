@@ -49,13 +49,13 @@ returns-2 : tie.Need-returns-2
 returns-2 c = rw (c .before .enum-told2 .given .1) (c .subtract .ensures)
 
 returns-3 : tie.Need-returns-3
-returns-3 c = rw (c .before .before .enum-told3 .given .1, ← c .before .and .ensures) (c .with-nz .ensures)
+returns-3 c = rw (c .before .before .enum-told3 .given .1) (rw (c .before .and .ensures) at (c .with-nz .ensures))
 
 returns-4 : tie.Need-returns-4
-returns-4 c = rw (c .before .before .enum-told4 .given .1, ← c .before .or .ensures) (c .with-nz2 .ensures)
+returns-4 c = rw (c .before .before .enum-told4 .given .1) (rw (c .before .or .ensures) at (c .with-nz2 .ensures))
 
 returns-5 : tie.Need-returns-5
-returns-5 c = rw (c .before .before .enum-told5 .given .1, ← c .before .xor .ensures) (c .with-nz3 .ensures)
+returns-5 c = rw (c .before .before .enum-told5 .given .1) (rw (c .before .xor .ensures) at (c .with-nz3 .ensures))
 
 pub binary-spec : {M : Type 1} → statement M
 binary-spec =

@@ -49,19 +49,19 @@ with-nz-requires-5 : tie.Need-with-nz-requires-5
 with-nz-requires-5 c κs = search needs
 
 returns : tie.Need-returns
-returns c = rw (c .before .before .enum-told .given .1, ← c .before .shift-left .ensures) (c .with-nz .ensures)
+returns c = rw (c .before .before .enum-told .given .1) (rw (c .before .shift-left .ensures) at (c .with-nz .ensures))
 
 returns-2 : tie.Need-returns-2
-returns-2 c = rw (c .before .before .enum-told2 .given .1, ← c .before .shift-left2 .ensures) (c .with-nz2 .ensures)
+returns-2 c = rw (c .before .before .enum-told2 .given .1) (rw (c .before .shift-left2 .ensures) at (c .with-nz2 .ensures))
 
 returns-3 : tie.Need-returns-3
-returns-3 c = rw (c .before .before .enum-told3 .given .1, ← c .before .shift-right .ensures) (c .with-nz3 .ensures)
+returns-3 c = rw (c .before .before .enum-told3 .given .1) (rw (c .before .shift-right .ensures) at (c .with-nz3 .ensures))
 
 returns-4 : tie.Need-returns-4
-returns-4 c = rw (c .before .before .enum-told4 .given .1, ← c .before .shift-right2 .ensures) (c .with-nz4 .ensures)
+returns-4 c = rw (c .before .before .enum-told4 .given .1) (rw (c .before .shift-right2 .ensures) at (c .with-nz4 .ensures))
 
 returns-5 : tie.Need-returns-5
-returns-5 c = rw (c .before .before .enum-told5 .given .1, ← c .before .not .ensures) (c .with-nz5 .ensures)
+returns-5 c = rw (c .before .before .enum-told5 .given .1) (rw (c .before .not .ensures) at (c .with-nz5 .ensures))
 
 pub unary-spec : {M : Type 1} → statement M
 unary-spec =

@@ -10,7 +10,7 @@ address-of-requires : tie.Need-address-of-requires
 address-of-requires c κs = search needs
 
 returns : tie.Need-returns
-returns c = rw (← c .before .field-d12 .ensures) (c .address-of .ensures)
+returns c = rw (c .before .field-d12 .ensures) at (c .address-of .ensures)
 
 pub call-target-spec : {M : Type 1} → statement M
 call-target-spec = tie.close (tie.spec field-d12-requires address-of-requires returns)

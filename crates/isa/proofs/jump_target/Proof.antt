@@ -10,7 +10,7 @@ address-of-requires : tie.Need-address-of-requires
 address-of-requires c κs = search needs
 
 returns : tie.Need-returns
-returns c = rw (← c .before .field-d10 .ensures) (c .address-of .ensures)
+returns c = rw (c .before .field-d10 .ensures) at (c .address-of .ensures)
 
 pub jump-target-spec : {M : Type 1} → statement M
 jump-target-spec = tie.close (tie.spec field-d10-requires address-of-requires returns)
