@@ -1,0 +1,2 @@
+-- Laws on tables of digit values.
+pub mod Values

@@ -1,0 +1,184 @@
+-- A line is read as an entry, or as blank, exactly where it is written as one. Assumes nothing.
+use mathlib.Core.Path.{_≡_, refl, sym, ap, _∙_}
+use mathlib.Core.Bool.{Bool, true, false, cond, _&&_}
+use mathlib.Core.List.{List, [], _∷_, _++_, append-nil}
+use Prim.Native.Nat.{ℕ, zero, suc, _+_, _≤_, _<_}
+use native.Mathlib.Nat.{add-zero}
+use native.Mathlib.Decide.{decLt}
+use native.Mathlib.Omega.{arith}
+use borrow.Author.Tests.{lt-ltb, eqb-true}
+use lib.Dec.{eqb, ltb, lit<}
+use lib.ListN.{length, getD, take, drop, replicate, take-append-drop, length-drop, List·getD-append}
+use lib.Seq.{drop-cons, drop-drop, drop-append-add, drop-at, getD-take, getD-drop, getD-at, getD-append-add, length-take-le}
+use Rattle.digits.specs.Digits.{digitValue}
+use Rattle.lines.specs.Lines.{space, semicolon, afterSpaces, isEmpty, nothingOrComment, ends, byteAt, fourDigits, numberAt, entryFrom, entryOf, readLine}
+use Rattle.lines.specs.Theorems.{Writes, EntryLine, EntryExactly, BlankExactly}
+use Rattle.lines.specs.declared.Line.{Line}
+use Rattle.lines.specs.declared.Line.the-variants.{Blank, Entry, IllFormed}
+use Rattle.lines.proofs.Places.{too-short}
+use Rattle.lines.proofs.Entries.{Entered, LineEntered, blank-no-entry, ill-formed-no-entry, line-entered}
+
+-- the spaces at the front, counted
+spaces-of : (t : List ℕ) → (k : ℕ) × (t ≡ replicate k space ++ afterSpaces t)
+unfolding afterSpaces
+spaces-of [] = (0, refl)
+spaces-of (b ∷ t) = by (eqb b space) refl (spaces-of t) where
+  by : (v : Bool) → eqb b space ≡ v → ((k : ℕ) × (t ≡ replicate k space ++ afterSpaces t))
+      → (k : ℕ) × (b ∷ t ≡ replicate k space ++ cond v (afterSpaces t) (b ∷ t))
+  by true e r = (suc (r .0), ap (λ (x : ℕ). x ∷ t) (eqb-true b space e) ∙ ap (λ (l : List ℕ). space ∷ l) (r .1))
+  by false e r = (0, refl)
+
+spaces-passed : (k : ℕ) (t : List ℕ) → afterSpaces (replicate k space ++ t) ≡ afterSpaces t
+unfolding afterSpaces
+spaces-passed zero t = refl
+spaces-passed (suc k) t = spaces-passed k t
+
+none : afterSpaces [] ≡ []
+unfolding afterSpaces
+none = refl
+
+comment-kept : (t : List ℕ) → nothingOrComment t ≡ true → nothingOrComment (afterSpaces t) ≡ true
+unfolding afterSpaces
+comment-kept [] e = refl
+comment-kept (b ∷ t) e = let s = eqb-true b semicolon e in rw s
+
+-- a number depends on its four bytes alone
+same-number : (s t : List ℕ) (i j : ℕ) → ((k : ℕ) → k < 4 → getD s (i + k) 0 ≡ getD t (j + k) 0) → numberAt s i ≡ numberAt t j
+unfolding numberAt
+same-number s t i j z =
+    let e : getD s i 0 ≡ getD t j 0 = rw (add-zero, add-zero) at (z 0 (lit< tt)) in
+    rw (e, z 1 (lit< tt), z 2 (lit< tt), z 3 (lit< tt))
+
+-- from what is read to how it is written
+long-enough : (line : List ℕ) (x y : ℕ) → readLine line ≡ Entry x y → 9 ≤ length line
+unfolding readLine
+long-enough line x y e = elim (decLt (length line) 9) [ yes l ↦ absurd (short l (isEmpty (afterSpaces line)) e) | no l ↦ omega arith ] where
+  short : length line < 9 → (v : Bool) → cond v Blank (entryOf line) ≡ Entry x y → ⊥
+  short l true e = blank-no-entry x y e
+  short l false e = ill-formed-no-entry x y (sym (too-short line l) ∙ e)
+
+pieces : (line : List ℕ) → 9 ≤ length line → getD line 4 0 ≡ space
+    → line ≡ take 4 line ++ (space ∷ (take 4 (drop 5 line) ++ drop 9 line))
+pieces line h e =
+    sym (take-append-drop 4 line)
+    ∙ ap (λ (l : List ℕ). take 4 line ++ l)
+    (drop-cons line 4 0 (omega arith) ∙ ap (λ (b : ℕ). b ∷ drop 5 line) e
+    ∙ ap (λ (l : List ℕ). space ∷ l)
+    (sym (take-append-drop 4 (drop 5 line)) ∙ ap (λ (l : List ℕ). take 4 (drop 5 line) ++ l) (drop-drop 4 5 line)))
+
+read-entry : (line : List ℕ) (x y : ℕ) → readLine line ≡ Entry x y → EntryLine line x y
+read-entry line x y e =
+    let r = line-entered line x y e in
+    let h = long-enough line x y e in
+    let s = spaces-of (drop 9 line) in
+    record {
+      first = take 4 line;
+      second = take 4 (drop 5 line);
+      spaces = s .0;
+      rest = afterSpaces (drop 9 line);
+      writes-address = (
+        length-take-le 4 line (omega arith),
+        same-number (take 4 line) line 0 0 (λ k l. getD-take 4 line (0 + k) 0 (omega arith)) ∙ r .address,
+        r .address-word,
+      );
+      writes-word = (
+        length-take-le 4 (drop 5 line) (omega (arith, length-drop 5 line)),
+        same-number (take 4 (drop 5 line)) line 0 5
+            (λ k l.
+            let z : 5 + (0 + k) ≡ 5 + k = omega arith in
+            getD-take 4 (drop 5 line) (0 + k) 0 (omega arith) ∙ getD-drop 5 line (0 + k) 0 ∙ ap (λ (n : ℕ). getD line n 0) z)
+            ∙ r .word,
+        r .word-word,
+      );
+      ending = r .end;
+      whole = pieces line h (r .spaced) ∙ ap (λ (l : List ℕ). take 4 line ++ (space ∷ (take 4 (drop 5 line) ++ l))) (s .1);
+    }
+
+-- and back
+no-space : (b x : ℕ) (t : List ℕ) → numberAt (b ∷ t) 0 ≡ x → x < 65536 → eqb b space ≡ false
+unfolding numberAt fourDigits digitValue
+no-space b x t e h = by (eqb b space) refl where
+  by : (v : Bool) → eqb b space ≡ v → v ≡ false
+  by true p =
+      let s = eqb-true b space p in
+      let n : numberAt (b ∷ t) 0 ≡ 65536 = rw s in absurd (omega (arith, n, e))
+  by false p = refl
+
+not-blank : (t rest : List ℕ) (x : ℕ) → Writes t x → isEmpty (afterSpaces (t ++ rest)) ≡ false
+unfolding afterSpaces
+not-blank [] rest x w = absurd (omega (arith, w .0))
+not-blank (b ∷ t) rest x w = rw (no-space b x t (w .1) (w .2))
+
+module _ (first second end : List ℕ) (x y : ℕ) (f : Writes first x) (s : Writes second y) where
+  line : List ℕ
+  line = first ++ (space ∷ (second ++ end))
+
+  address-there : numberAt line 0 ≡ x
+  unfolding line
+  address-there =
+      same-number (first ++ (space ∷ (second ++ end))) first 0 0
+      (λ k l. List·getD-append first (space ∷ (second ++ end)) 0 (0 + k) (omega (arith, f .0)))
+      ∙ f .1
+
+  word-there : numberAt line 5 ≡ y
+  unfolding line
+  word-there = same-number (first ++ (space ∷ (second ++ end))) second 5 0 at ∙ s .1 where
+    at : (k : ℕ) → k < 4 → getD (first ++ (space ∷ (second ++ end))) (5 + k) 0 ≡ getD second (0 + k) 0
+    at k l =
+        let e : 5 + k ≡ length first + suc k = omega (arith, f .0) in
+        let z : 0 + k ≡ k = omega arith in
+        rw (e, z) (getD-append-add first (space ∷ (second ++ end)) (suc k) 0 ∙ List·getD-append second end 0 k (omega (arith, s .0)))
+
+  end-there : drop 9 line ≡ end
+  unfolding line
+  end-there =
+      let e : 9 ≡ length first + 5 = omega (arith, f .0) in
+      ap (λ (n : ℕ). drop n (first ++ (space ∷ (second ++ end)))) e ∙ drop-append-add first (space ∷ (second ++ end)) 5 ∙ drop-at second end 4 (s .0)
+
+  written-entry : ends end ≡ true → readLine line ≡ Entry x y
+  unfolding line readLine entryOf entryFrom
+  written-entry t =
+      rw (
+        not-blank first (space ∷ (second ++ end)) x f,
+        address-there,
+        word-there,
+        getD-at first space (second ++ end) 0 4 (f .0),
+        end-there,
+        t,
+        lt-ltb x 65536 (f .2),
+        lt-ltb y 65536 (s .2),
+      )
+
+pub entry-exactly : EntryExactly
+unfolding line
+entry-exactly text x y = (
+  read-entry text x y,
+  λ r.
+      let t : ends (replicate (r .spaces) space ++ r .rest) ≡ true = rw (spaces-passed (r .spaces) (r .rest)) (comment-kept (r .rest) (r .ending)) in
+      rw (r .whole) (written-entry (r .first) (r .second) (replicate (r .spaces) space ++ r .rest) x y (r .writes-address) (r .writes-word) t),
+)
+
+-- an entry, or a line that is none, is not blank
+entry-no-blank : (a between w : ℕ) (ended : Bool) → entryFrom a between w ended ≡ Blank → ⊥
+unfolding entryFrom
+entry-no-blank a between w ended = by (ltb a 65536 && eqb between space && ltb w 65536 && ended) where
+  by : (v : Bool) → cond v (Entry a w) IllFormed ≡ Blank → ⊥
+  by true e = let z : _≡_ {A = ℕ} 0 1 = cc in omega arith
+  by false e = let z : _≡_ {A = ℕ} 0 1 = cc in omega arith
+
+nothing-left : (t : List ℕ) → isEmpty t ≡ true → t ≡ []
+nothing-left [] e = refl
+nothing-left (b ∷ t) e = let z : _≡_ {A = ℕ} 0 1 = cc in absurd (omega arith)
+
+pub blank-exactly : BlankExactly
+unfolding readLine entryOf
+blank-exactly line = (by (isEmpty (afterSpaces line)) refl, back) where
+  by : (v : Bool) → isEmpty (afterSpaces line) ≡ v → cond v Blank (entryOf line) ≡ Blank → (spaces : ℕ) × (line ≡ replicate spaces space)
+  by true v e =
+      let s = spaces-of line in
+      (s .0, s .1 ∙ ap (λ (t : List ℕ). replicate (s .0) space ++ t) (nothing-left (afterSpaces line) v) ∙ append-nil (replicate (s .0) space))
+  by false v e = absurd (entry-no-blank (numberAt line 0) (byteAt line 4) (numberAt line 5) (ends (drop 9 line)) e)
+
+  back : ((spaces : ℕ) × (line ≡ replicate spaces space)) → readLine line ≡ Blank
+  back s =
+      let z : afterSpaces line ≡ [] = ap afterSpaces (s .1 ∙ sym (append-nil (replicate (s .0) space))) ∙ spaces-passed (s .0) [] ∙ none in rw z

@@ -1,0 +1,6 @@
+-- Laws on the bytes and lines of a listing.
+pub mod Places
+pub mod Front
+pub mod Theorems
+pub mod Entries
+pub mod Grammar

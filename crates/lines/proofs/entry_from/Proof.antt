@@ -1,0 +1,40 @@
+-- `lines::entry_from` meets its contract. Assumes nothing.
+use borrow.Author.Needs.{needs}
+use borrow.Author.Tests.{lt-ltb, le-ltb, eq-eqb, ne-eqb}
+use Rattle.lines.specs.Lines.{space, entryFrom}
+use Rattle.lines.proofs.entry_from.Statement.{statement}
+use Rattle.lines.proofs.entry_from.Tie as tie
+
+returns : tie.Need-returns
+unfolding entryFrom
+returns c = rw (le-ltb _ 65536 (c .if1 .taken))
+
+returns-2 : tie.Need-returns-2
+unfolding entryFrom
+returns-2 c = rw (lt-ltb _ 65536 (c .before .if1 .left), ne-eqb _ space (c .if2 .taken))
+
+returns-3 : tie.Need-returns-3
+unfolding entryFrom
+returns-3 c = rw (lt-ltb _ 65536 (c .before .before .if1 .left), eq-eqb _ space (c .before .if2 .left), le-ltb _ 65536 (c .if3 .taken))
+
+cast-t6 : tie.Need-cast-t6
+cast-t6 c = search needs
+
+cast-t7 : tie.Need-cast-t7
+cast-t7 c = search needs
+
+returns-4 : tie.Need-returns-4
+unfolding entryFrom
+returns-4 c =
+    let d = c .before .before .before in
+    rw (lt-ltb _ 65536 (d .if1 .left), eq-eqb _ space (c .before .before .if2 .left), lt-ltb _ 65536 (c .before .if3 .left), c .if4 .taken)
+
+returns-5 : tie.Need-returns-5
+unfolding entryFrom
+returns-5 c =
+    let d = c .before .before .before in
+    rw (lt-ltb _ 65536 (d .if1 .left), eq-eqb _ space (c .before .before .if2 .left), lt-ltb _ 65536 (c .before .if3 .left), c .if4 .left)
+
+pub entry-from-spec : {M : Type 1} → statement M
+entry-from-spec =
+    tie.close (tie.spec returns returns-2 returns-3 cast-t6 cast-t7 returns-4 returns-5)

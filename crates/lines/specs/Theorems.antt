@@ -1,0 +1,77 @@
+-- What holds of every listing's lines, of every line and of every comment: six statements, proved in proofs/Theorems.antt.
+use mathlib.Core.Path.{_≡_}
+use mathlib.Core.Logic.{_↔_, _⊎_}
+use mathlib.Core.Bool.{true}
+use mathlib.Core.List.{List, [], _∷_, _++_}
+use Prim.Native.Nat.{ℕ, _+_, _-_, _≤_, _<_}
+use lib.ListN.{length, getD, take, drop, replicate}
+use Rattle.lines.specs.Lines.{lineFeed, space, lines, find, firstLine, nothingOrComment, numberAt, readLine}
+use Rattle.lines.specs.Comment.{commentText, commentStart}
+use Rattle.lines.specs.declared.Line.the-variants.{Blank, Entry}
+
+abbrev pub lineAt : List ℕ → ℕ → List ℕ
+lineAt listing i = getD (lines listing) i []
+
+-- lines written one after the other, each with an LF
+unfoldable pub written : List (List ℕ) → List ℕ
+written [] = []
+written (line ∷ rest) = line ++ (lineFeed ∷ written rest)
+
+-- written so, the lines are the listing, but for an LF that the last line may lack; and no line holds one (proved as
+-- `lines-written`)
+abbrev pub LinesWritten : Type 0
+LinesWritten =
+    (listing : List ℕ)
+    → ((written (lines listing) ≡ listing) ⊎ (written (lines listing) ≡ listing ++ (lineFeed ∷ [])))
+    × ((i j : ℕ) → getD (lineAt listing i) j 0 ≡ lineFeed → ⊥)
+
+-- where the line after some lines starts: past their bytes and an LF for each
+unfoldable pub startAfter : List (List ℕ) → ℕ
+startAfter [] = 0
+startAfter (line ∷ rest) = length line + 1 + startAfter rest
+
+abbrev pub startAt : List ℕ → ℕ → ℕ
+startAt listing i = startAfter (take i (lines listing))
+
+-- a line's start lies in the listing, at its front or behind an LF, and the line goes from there to the next LF or the end (proved as
+-- `lines-start`)
+abbrev pub LinesStart : Type 0
+LinesStart =
+    (listing : List ℕ) (i : ℕ) → i < length (lines listing)
+    → (startAt listing i < length listing) × ((startAt listing i ≡ 0) ⊎ (getD listing (startAt listing i - 1) 0 ≡ lineFeed))
+    × (lineAt listing i ≡ firstLine (drop (startAt listing i) listing))
+
+-- 'four hex digits', and the number that they write
+abbrev pub Writes : List ℕ → ℕ → Type 0
+Writes digits n = (length digits ≡ 4) × (numberAt digits 0 ≡ n) × (n < 65536)
+
+-- 'four hex digits, one space, four hex digits, spaces or none, then nothing or `;` and a comment'
+pub record EntryLine (line : List ℕ) (address word : ℕ) : Type 0 where
+  pub first : List ℕ
+  pub second : List ℕ
+  pub spaces : ℕ
+  pub rest : List ℕ
+  pub writes-address : Writes first address
+  pub writes-word : Writes second word
+  pub ending : nothingOrComment rest ≡ true
+  pub whole : line ≡ first ++ (space ∷ (second ++ (replicate spaces space ++ rest)))
+
+-- a line is read as an entry exactly where it is one, with its address and word (proved as `entry-exactly`)
+abbrev pub EntryExactly : Type 0
+EntryExactly = (line : List ℕ) (address word : ℕ) → (readLine line ≡ Entry address word) ↔ EntryLine line address word
+
+-- and as blank exactly where it is 'of spaces or none' (proved as `blank-exactly`)
+abbrev pub BlankExactly : Type 0
+BlankExactly = (line : List ℕ) → (readLine line ≡ Blank) ↔ ((spaces : ℕ) × (line ≡ replicate spaces space))
+
+-- what is looked for stands where it is found, if anywhere, and not before (proved as `find-first`)
+abbrev pub FindFirst : Type 0
+FindFirst =
+    (b : ℕ) (t : List ℕ)
+    → (find b t ≤ length t) × (find b t < length t → getD t (find b t) 0 ≡ b) × ((j : ℕ) → j < find b t → getD t j 0 ≡ b → ⊥)
+
+-- a comment's text stands where the comment starts (proved as `comment-stands`)
+abbrev pub CommentStands : Type 0
+CommentStands =
+    (listing : List ℕ) (offset : ℕ)
+    → take (length (commentText listing offset)) (drop (commentStart listing offset) listing) ≡ commentText listing offset

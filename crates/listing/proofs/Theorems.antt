@@ -1,0 +1,83 @@
+-- The theorems of specs/Theorems.antt; `numbers` is in Numbers. Assumes nothing.
+use mathlib.Core.Path.{_≡_, refl, sym, ap, subst, _∙_}
+use mathlib.Core.List.{List, [], _∷_}
+use Prim.Native.Nat.{ℕ, zero, suc, _+_, _≤_, _<_}
+use native.Mathlib.Nat.{zero-add}
+use native.Mathlib.Omega.{arith}
+use lib.ListN.{length, getD}
+use Rattle.lines.specs.Lines.{lines}
+use Rattle.lines.proofs.Entries.{entry-words}
+use Rattle.listing.specs.Answers.{stored, refused}
+use Rattle.listing.specs.Listing.{Check, sound, faulty, wordsIn, storeLines, answerOf, memoryOf, checkOf, listingAnswer, listingMemory}
+use Rattle.listing.specs.Theorems.{RefusedExactly, RefusedUnchanged, StoredExactly, StoredAtMost, Rising, WordsStored, StoredTwice}
+use Rattle.listing.proofs.Decided.{accepted, refuses}
+use Rattle.listing.proofs.Faults.{from-refused, from-stored, sound-all, all-sound, first-faulty, faulty-first}
+use Rattle.listing.proofs.Stores.{length-lines, others, same, said, lowest, rises, at-most}
+
+pub refused-exactly : RefusedExactly
+unfolding listingAnswer checkOf
+refused-exactly listing L number start = (
+  λ e.
+      let r = faulty-first L (lines listing) 0 0 number start (from-refused (checkOf listing L) (wordsIn (lines listing)) number start e) in
+      let f = r .1 in
+      (r .0, f .0, f .1, f .2, omega (arith, f .3), f .4),
+  λ f.
+      ap (λ (k : Check). answerOf k (wordsIn (lines listing)))
+      (first-faulty L (lines listing) 0 0 number start (f .0) (f .1, f .2, f .3, omega (arith, f .4), f .5)),
+)
+
+-- what a listing that is stored has of its check
+pub is-sound : (listing : List ℕ) (L count : ℕ) → listingAnswer listing L ≡ stored count → (checkOf listing L ≡ sound) × (count ≡ wordsIn (lines listing))
+unfolding listingAnswer
+is-sound listing L count e = from-stored (checkOf listing L) (wordsIn (lines listing)) count e
+
+pub refused-unchanged : RefusedUnchanged
+refused-unchanged listing memory number start e = refuses listing memory number start e
+
+pub stored-exactly : StoredExactly
+unfolding listingAnswer checkOf
+stored-exactly listing L count = (
+  λ e. let s = is-sound listing L count e in (sound-all L (lines listing) 0 0 (s .0), s .1),
+  λ f. ap (λ (k : Check). answerOf k (wordsIn (lines listing))) (all-sound L (lines listing) 0 0 (f .0)) ∙ ap stored (sym (f .1)),
+)
+
+pub stored-at-most : StoredAtMost
+unfolding checkOf
+stored-at-most listing L count e =
+    let s = is-sound listing L count e in
+    let ls = lines listing in
+    let m = at-most L L ls 0 0 (s .0) (λ i a w p. lowest L ls 0 0 (s .0) i a w p .0) (omega arith) in
+    let n = at-most L 65536 ls 0 0 (s .0) (λ i a w p. entry-words (getD ls i []) a w p .0) (omega arith) in
+    (omega (arith, m, s .1), omega (arith, n, s .1))
+
+pub rising : Rising
+unfolding checkOf
+rising listing L count e =
+    let s = is-sound listing L count e in
+    (λ i a w p. lowest L (lines listing) 0 0 (s .0) i a w p .0, λ i j a b w v h p q. rises L (lines listing) 0 0 (s .0) i j a b w v h p q)
+
+pub words-stored : WordsStored
+unfolding checkOf
+words-stored listing memory count e =
+    let s = is-sound listing (length memory) count e in
+    rw (accepted listing memory count e) (
+      length-lines (lines listing) memory,
+      λ i a w p. said (length memory) (lines listing) 0 0 memory refl (s .0) i a w p,
+      λ x n. others (lines listing) memory x n,
+    )
+
+-- whatever the check found
+twice : (listing memory : List ℕ) (k : Check) → checkOf listing (length memory) ≡ k
+    → (listingMemory listing (memoryOf k (storeLines (lines listing) memory) memory) ≡ memoryOf k (storeLines (lines listing) memory) memory)
+    × (length (memoryOf k (storeLines (lines listing) memory) memory) ≡ length memory)
+unfolding listingMemory checkOf
+twice listing memory sound e =
+    let after = storeLines (lines listing) memory in
+    let l = length-lines (lines listing) memory in
+    (rw (l, e) (same (lines listing) after (said (length memory) (lines listing) 0 0 memory refl e)), l)
+twice listing memory (faulty number start) e = (rw e, refl)
+
+pub stored-twice : StoredTwice
+unfolding listingMemory
+stored-twice listing memory =
+    let t = twice listing memory (checkOf listing (length memory)) refl in (t .0, ap (listingAnswer listing) (t .1))

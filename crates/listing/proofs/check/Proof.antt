@@ -1,0 +1,139 @@
+-- `listing::check` meets its contract: from the place reached, the rest of the lines gives what all give. A line takes a byte or
+-- more, so the count of words fits. Assumes nothing.
+use mathlib.Core.Path.{_≡_, refl, sym, ap, _∙_}
+use Prim.Native.Nat.{_≤_, _+_, _-_}
+use native.Mathlib.Omega.{arith}
+use borrow.Author.Needs.{needs}
+use lib.ListN.{length, drop}
+use Rattle.lines.specs.Lines.{lines}
+use Rattle.listing.specs.Answers.{stored, faultNumber, verdictNumber}
+use Rattle.listing.specs.Listing.{firstFault, wordsIn, checkOf, listingAnswer}
+use Rattle.listing.proofs.Turns.{numbered, words-le, turn, sound-line, faulty-line, counted, no-fault, no-words}
+use Rattle.listing.proofs.check.Statement.{statement}
+use Rattle.listing.proofs.check.Tie as tie
+
+abbrev Inv-loop : tie.InvT-loop
+Inv-loop listing limit at₀ next₀ count₀ at next count =
+    (firstFault limit 0 0 (lines listing) ≡ firstFault limit next at (lines (drop at listing)))
+    × (wordsIn (lines listing) ≡ count + wordsIn (lines (drop at listing)))
+    × (at ≤ length listing + 1)
+    × (count ≤ at)
+
+abbrev μ-loop : tie.MeasureT-loop
+μ-loop listing limit at₀ next₀ count₀ at next count = length listing + 1 - at
+
+loop-holds : tie.Need-loop-holds Inv-loop μ-loop
+loop-holds c = (refl, omega arith, omega arith, omega arith)
+
+sub-read-line : tie.Need-sub-read-line Inv-loop μ-loop
+sub-read-line c = search needs
+
+part-read-line-start : tie.Need-part-read-line-start Inv-loop μ-loop
+part-read-line-start c = search needs
+
+part-read-line-end : tie.Need-part-read-line-end Inv-loop μ-loop
+part-read-line-end c = search needs
+
+read-line-requires : tie.Need-read-line-requires Inv-loop μ-loop
+read-line-requires c κs = search needs
+
+judge-requires : tie.Need-judge-requires Inv-loop μ-loop
+judge-requires c κs = search needs
+
+enum-known-verdict : tie.Need-enum-known-verdict Inv-loop μ-loop
+enum-known-verdict c = search needs
+
+returns : tie.Need-returns Inv-loop μ-loop
+unfolding listingAnswer checkOf
+returns c =
+    let r = c .before .before .before .before in
+    let l = r .before .before .before in
+    let s = l .before .before .args in
+    let t = turn (s .listing .now) (l .loop .at) (r .before .before .loop-test .taken) (r .read-line .ensures) in
+    let v = c .before .before .before .judge .ensures in
+    let f = c .before .verdict .given in
+    rw (
+      l .loop .inv .0,
+      faulty-line t (s .limit) (l .loop .next) (faultNumber (f .0 .0)) (sym v ∙ ap verdictNumber (f .1)) (numbered (f .0 .0)),
+    )
+
+enum-told : tie.Need-enum-told Inv-loop μ-loop
+enum-told c = search needs
+
+next-after-requires : tie.Need-next-after-requires Inv-loop μ-loop
+next-after-requires c κs = search needs
+
+words-of-requires : tie.Need-words-of-requires Inv-loop μ-loop
+words-of-requires c κs = search needs
+
+add-count : tie.Need-add-count Inv-loop μ-loop
+add-count c =
+    let r = c .before .before .before .before .before in
+    omega (arith, c .words-of .ensures, words-le (r .read-line .result .line), r .before .before .before .loop .inv .3)
+
+add-at : tie.Need-add-at Inv-loop μ-loop
+add-at c =
+    let r = c .before .before .before .before .before .before in
+    let l = r .before .before .before in
+    let s = l .before .before .args in
+    let t = turn (s .listing .now) (l .loop .at) (r .before .before .loop-test .taken) (r .read-line .ensures) in
+    omega (arith, t .within)
+
+add-at-2 : tie.Need-add-at-2 Inv-loop μ-loop
+add-at-2 c =
+    let r = c .before .before .before .before .before .before in
+    let l = r .before .before .before in
+    let s = l .before .before .args in
+    let t = turn (s .listing .now) (l .loop .at) (r .before .before .loop-test .taken) (r .read-line .ensures) in
+    omega (arith, t .within)
+
+loop-less : tie.Need-loop-less Inv-loop μ-loop
+loop-less c = omega arith
+
+loop-again : tie.Need-loop-again Inv-loop μ-loop
+loop-again c =
+    let r = c .before .before .before .before .before .before in
+    let l = r .before .before .before in
+    let s = l .before .before .args in
+    let t = turn (s .listing .now) (l .loop .at) (r .before .before .loop-test .taken) (r .read-line .ensures) in
+    let v = c .before .before .before .before .before .judge .ensures in
+    let w = c .before .words-of .ensures in (
+      rw (c .before .before .next-after .ensures)
+          (l .loop .inv .0
+          ∙ sound-line t (s .limit) (l .loop .next) (sym v ∙ ap verdictNumber (c .before .before .before .enum-told .given .1))),
+      omega (arith, l .loop .inv .1, w, counted t),
+      t .within,
+      omega (arith, w, words-le (r .read-line .result .line), l .loop .inv .3),
+    )
+
+returns-2 : tie.Need-returns-2 Inv-loop μ-loop
+unfolding listingAnswer checkOf
+returns-2 c =
+    let l = c .before in
+    let s = l .before .before .args in
+    rw (l .loop .inv .0, no-fault (s .listing .now) (s .limit) (l .loop .next) (l .loop .at) (c .loop-test .left))
+    (ap stored (omega (arith, l .loop .inv .1, no-words (s .listing .now) (l .loop .at) (c .loop-test .left))))
+
+pub check-spec : {M : Type 1} → statement M
+check-spec =
+    tie.close
+    (tie.spec
+    Inv-loop
+    μ-loop
+    loop-holds
+    sub-read-line
+    part-read-line-start
+    part-read-line-end
+    read-line-requires
+    judge-requires
+    enum-known-verdict
+    returns
+    enum-told
+    next-after-requires
+    words-of-requires
+    add-count
+    add-at
+    add-at-2
+    loop-less
+    loop-again
+    returns-2)

@@ -1,0 +1,89 @@
+-- What holds of every listing and memory: eight statements, proved in proofs/Theorems.antt.
+use mathlib.Core.Path.{_≡_}
+use mathlib.Core.Logic.{_↔_, _⊎_}
+use mathlib.Core.List.{List, [], _∷_}
+use Prim.Native.Nat.{ℕ, _≤_, _<_}
+use lib.ListN.{length, take}
+use Rattle.words.specs.Memory.{wordAt}
+use Rattle.lines.specs.Lines.{lines, readLine}
+use Rattle.lines.specs.Theorems.{lineAt, startAt}
+use Rattle.lines.specs.declared.Line.the-variants.{Entry, IllFormed}
+use Rattle.listing.specs.Answers.{stored, refused}
+use Rattle.listing.specs.Listing.{nextAfter, faultOf, wordsIn, listingAnswer, listingMemory}
+
+-- one past the last address that lines say, with the one from before them
+unfoldable pub nextOf : List (List ℕ) → ℕ → ℕ
+nextOf [] next = next
+nextOf (line ∷ rest) next = nextOf rest (nextAfter (readLine line) next)
+
+-- the number of line i's fault, 0 where it has none
+abbrev pub faultAt : List ℕ → ℕ → ℕ → ℕ
+faultAt listing L i = faultOf L (nextOf (take i (lines listing)) 0) (readLine (lineAt listing i))
+
+-- line i says that a word goes to an address
+abbrev pub Says : List ℕ → ℕ → ℕ → ℕ → Type 0
+Says listing i address word = readLine (lineAt listing i) ≡ Entry address word
+
+-- 'the one before' line i: the address b of the last line before it that says one
+abbrev pub Before : List ℕ → ℕ → ℕ → Type 0
+Before listing i b =
+    (j : ℕ) × (w : ℕ) × (j < i) × Says listing j b w × ((k a v : ℕ) → j < k → k < i → Says listing k a v → ⊥)
+
+-- '2: line ill-formed. 3: address not above the one before. 4: address at or past L', 4 before 3; there is no other number (proved as
+-- `numbers`)
+abbrev pub Numbers : Type 0
+Numbers =
+    (listing : List ℕ) (L i : ℕ)
+    → ((faultAt listing L i ≡ 2) ↔ (readLine (lineAt listing i) ≡ IllFormed))
+    × ((faultAt listing L i ≡ 4) ↔ ((a : ℕ) × (w : ℕ) × Says listing i a w × (L ≤ a)))
+    × ((faultAt listing L i ≡ 3) ↔ ((a : ℕ) × (w : ℕ) × (b : ℕ) × Says listing i a w × (a < L) × Before listing i b × (a ≤ b)))
+    × ((faultAt listing L i ≡ 0) ⊎ (faultAt listing L i ≡ 2) ⊎ (faultAt listing L i ≡ 3) ⊎ (faultAt listing L i ≡ 4))
+
+-- a listing is refused exactly where some line is faulty, with the number and the start of the first such line (proved as
+-- `refused-exactly`)
+abbrev pub RefusedExactly : Type 0
+RefusedExactly =
+    (listing : List ℕ) (L number start : ℕ)
+    → (listingAnswer listing L ≡ refused number start)
+    ↔ ((i : ℕ) × (i < length (lines listing)) × (faultAt listing L i ≡ number) × (number ≡ 0 → ⊥) × (startAt listing i ≡ start)
+    × ((j : ℕ) → j < i → faultAt listing L j ≡ 0))
+
+-- and then 'changes nothing' (proved as `refused-unchanged`)
+abbrev pub RefusedUnchanged : Type 0
+RefusedUnchanged =
+    (listing memory : List ℕ) (number start : ℕ)
+    → listingAnswer listing (length memory) ≡ refused number start
+    → listingMemory listing memory ≡ memory
+
+-- it is stored exactly where no line is faulty, and the answer is the number of its words (proved as `stored-exactly`)
+abbrev pub StoredExactly : Type 0
+StoredExactly =
+    (listing : List ℕ) (L count : ℕ)
+    → (listingAnswer listing L ≡ stored count)
+    ↔ (((i : ℕ) → i < length (lines listing) → faultAt listing L i ≡ 0) × (count ≡ wordsIn (lines listing)))
+
+-- which is at most the length of the memory, and at most 65,536 (proved as `stored-at-most`)
+abbrev pub StoredAtMost : Type 0
+StoredAtMost = (listing : List ℕ) (L count : ℕ) → listingAnswer listing L ≡ stored count → (count ≤ L) × (count ≤ 65536)
+
+-- of a listing that is stored, 'addresses strictly rise' and lie below L (proved as `rising`)
+abbrev pub Rising : Type 0
+Rising =
+    (listing : List ℕ) (L count : ℕ) → listingAnswer listing L ≡ stored count
+    → ((i a w : ℕ) → Says listing i a w → a < L)
+    × ((i j a b w v : ℕ) → i < j → Says listing i a w → Says listing j b v → a < b)
+
+-- the words stored are those of its lines, and 'other words stay' (proved as `words-stored`)
+abbrev pub WordsStored : Type 0
+WordsStored =
+    (listing memory : List ℕ) (count : ℕ) → listingAnswer listing (length memory) ≡ stored count
+    → (length (listingMemory listing memory) ≡ length memory)
+    × ((i a w : ℕ) → Says listing i a w → wordAt (listingMemory listing memory) a ≡ w)
+    × ((x : ℕ) → ((i w : ℕ) → Says listing i x w → ⊥) → wordAt (listingMemory listing memory) x ≡ wordAt memory x)
+
+-- a second store of the same listing changes nothing, and answers the same (proved as `stored-twice`)
+abbrev pub StoredTwice : Type 0
+StoredTwice =
+    (listing memory : List ℕ)
+    → (listingMemory listing (listingMemory listing memory) ≡ listingMemory listing memory)
+    × (listingAnswer listing (length (listingMemory listing memory)) ≡ listingAnswer listing (length memory))
