@@ -1,2 +1,3 @@
 -- Laws on tables of digit values.
 pub mod Values
+pub mod Theorems

@@ -1,2 +1,3 @@
 -- What the contracts of `digits` cite.
 pub mod Digits
+pub mod Theorems

@@ -1,18 +1,20 @@
--- A line is read as an entry, or as blank, exactly where it is written as one. Assumes nothing.
+-- Theorems of specs/Theorems.antt on one line: its numbers, and that it is read as an entry, or as blank, exactly where it is
+-- written as one. Assumes nothing.
 use mathlib.Core.Path.{_≡_, refl, sym, ap, _∙_}
+use mathlib.Core.Logic.{_⊎_, inl, inr}
 use mathlib.Core.Bool.{Bool, true, false, cond, _&&_}
 use mathlib.Core.List.{List, [], _∷_, _++_, append-nil}
-use Prim.Native.Nat.{ℕ, zero, suc, _+_, _≤_, _<_}
+use Prim.Native.Nat.{ℕ, zero, suc, _+_, _*_, _≤_, _<_}
 use native.Mathlib.Nat.{add-zero}
 use native.Mathlib.Decide.{decLt}
 use native.Mathlib.Omega.{arith}
-use borrow.Author.Tests.{lt-ltb, eqb-true}
+use borrow.Author.Tests.{ltb-true, lt-ltb, eqb-true}
 use lib.Dec.{eqb, ltb, lit<}
 use lib.ListN.{length, getD, take, drop, replicate, take-append-drop, length-drop, List·getD-append}
 use lib.Seq.{drop-cons, drop-drop, drop-append-add, drop-at, getD-take, getD-drop, getD-at, getD-append-add, length-take-le}
 use Rattle.digits.specs.Digits.{digitValue}
 use Rattle.lines.specs.Lines.{space, semicolon, afterSpaces, isEmpty, nothingOrComment, ends, byteAt, fourDigits, numberAt, entryFrom, entryOf, readLine}
-use Rattle.lines.specs.Theorems.{Writes, EntryLine, EntryExactly, BlankExactly}
+use Rattle.lines.specs.Theorems.{digitAt, NumberExactly, Writes, EntryLine, EntryExactly, BlankExactly}
 use Rattle.lines.specs.declared.Line.{Line}
 use Rattle.lines.specs.declared.Line.the-variants.{Blank, Entry, IllFormed}
 use Rattle.lines.proofs.Places.{too-short}
@@ -37,16 +39,67 @@ none : afterSpaces [] ≡ []
 unfolding afterSpaces
 none = refl
 
-comment-kept : (t : List ℕ) → nothingOrComment t ≡ true → nothingOrComment (afterSpaces t) ≡ true
-unfolding afterSpaces
-comment-kept [] e = refl
-comment-kept (b ∷ t) e = let s = eqb-true b semicolon e in rw s
+-- nothing, or `;` and a comment
+Ending : List ℕ → Type 0
+Ending t = (t ≡ []) ⊎ ((comment : List ℕ) × (t ≡ semicolon ∷ comment))
+
+to-ending : (t : List ℕ) → nothingOrComment t ≡ true → Ending t
+unfolding Ending
+to-ending [] e = inl refl
+to-ending (b ∷ t) e = inr (t, ap (λ (x : ℕ). x ∷ t) (eqb-true b semicolon e))
+
+from-ending : (t : List ℕ) → Ending t → nothingOrComment (afterSpaces t) ≡ true
+unfolding Ending afterSpaces
+from-ending t (inl e) = rw e
+from-ending t (inr e) = rw (e .1)
+
+-- four digit values below 16, and their number
+four-read : (a b c d n : ℕ) → fourDigits a b c d ≡ n → n < 65536
+    → (a < 16) × (b < 16) × (c < 16) × (d < 16) × (n ≡ a * 4096 + b * 256 + c * 16 + d)
+unfolding fourDigits
+four-read a b c d n = by (ltb a 16) refl (ltb b 16) refl (ltb c 16) refl (ltb d 16) refl where
+  by : (p : Bool) → ltb a 16 ≡ p → (q : Bool) → ltb b 16 ≡ q → (r : Bool) → ltb c 16 ≡ r → (s : Bool) → ltb d 16 ≡ s
+      → cond (p && q && r && s) (a * 4096 + b * 256 + c * 16 + d) 65536 ≡ n → n < 65536
+      → (a < 16) × (b < 16) × (c < 16) × (d < 16) × (n ≡ a * 4096 + b * 256 + c * 16 + d)
+  by true p true q true r true s e h = (ltb-true a 16 p, ltb-true b 16 q, ltb-true c 16 r, ltb-true d 16 s, sym e)
+  by true p true q true r false s e h = absurd (omega (arith, e, h))
+  by true p true q false r s t e h = absurd (omega (arith, e, h))
+  by true p false q r s t u e h = absurd (omega (arith, e, h))
+  by false p q r s t u v e h = absurd (omega (arith, e, h))
+
+four-written : (a b c d : ℕ) → a < 16 → b < 16 → c < 16 → d < 16 → fourDigits a b c d ≡ a * 4096 + b * 256 + c * 16 + d
+unfolding fourDigits
+four-written a b c d p q r s = rw (lt-ltb a 16 p, lt-ltb b 16 q, lt-ltb c 16 r, lt-ltb d 16 s)
+
+-- what holds of four places holds below four
+each-of-four : (P : ℕ → Type 0) → P 0 → P 1 → P 2 → P 3 → (k : ℕ) → k < 4 → P k
+each-of-four P a b c d zero h = a
+each-of-four P a b c d (suc zero) h = b
+each-of-four P a b c d (suc (suc zero)) h = c
+each-of-four P a b c d (suc (suc (suc zero))) h = d
+each-of-four P a b c d (suc (suc (suc (suc k)))) h = absurd (omega (arith, h))
+
+pub number-exactly : NumberExactly
+unfolding numberAt
+number-exactly line i n = (
+  λ p.
+      let f = four-read (digitAt line i) (digitAt line (i + 1)) (digitAt line (i + 2)) (digitAt line (i + 3)) n (p .0) (p .1) in
+      let z : digitAt line (i + 0) < 16 = rw add-zero (f .0) in
+      (each-of-four (λ k. digitAt line (i + k) < 16) z (f .1) (f .2) (f .3), omega (arith, f .4)),
+  λ p.
+      let z : digitAt line i < 16 = rw add-zero at (p .0 0 (lit< tt)) in
+      let b = p .0 1 (lit< tt) in
+      let c = p .0 2 (lit< tt) in
+      let d = p .0 3 (lit< tt) in
+      let e = four-written (digitAt line i) (digitAt line (i + 1)) (digitAt line (i + 2)) (digitAt line (i + 3)) z b c d in
+      (e ∙ omega (arith, p .1), omega (arith, p .1, z, b, c, d)),
+)
 
 -- a number depends on its four bytes alone
 same-number : (s t : List ℕ) (i j : ℕ) → ((k : ℕ) → k < 4 → getD s (i + k) 0 ≡ getD t (j + k) 0) → numberAt s i ≡ numberAt t j
 unfolding numberAt
 same-number s t i j z =
-    let e : getD s i 0 ≡ getD t j 0 = rw (add-zero, add-zero) at (z 0 (lit< tt)) in
+    let e : getD s i 0 ≡ getD t j 0 = rw (add-zero i, add-zero j) at (z 0 (lit< tt)) in
     rw (e, z 1 (lit< tt), z 2 (lit< tt), z 3 (lit< tt))
 
 -- from what is read to how it is written
@@ -67,10 +120,12 @@ pieces line h e =
     (sym (take-append-drop 4 (drop 5 line)) ∙ ap (λ (l : List ℕ). take 4 (drop 5 line) ++ l) (drop-drop 4 5 line)))
 
 read-entry : (line : List ℕ) (x y : ℕ) → readLine line ≡ Entry x y → EntryLine line x y
+unfolding Ending
 read-entry line x y e =
     let r = line-entered line x y e in
     let h = long-enough line x y e in
     let s = spaces-of (drop 9 line) in
+    let ending : Ending (afterSpaces (drop 9 line)) = to-ending (afterSpaces (drop 9 line)) (r .end) in
     record {
       first = take 4 line;
       second = take 4 (drop 5 line);
@@ -90,7 +145,7 @@ read-entry line x y e =
             ∙ r .word,
         r .word-word,
       );
-      ending = r .end;
+      ending = ending;
       whole = pieces line h (r .spaced) ∙ ap (λ (l : List ℕ). take 4 line ++ (space ∷ (take 4 (drop 5 line) ++ l))) (s .1);
     }
 
@@ -150,11 +205,11 @@ module _ (first second end : List ℕ) (x y : ℕ) (f : Writes first x) (s : Wri
       )
 
 pub entry-exactly : EntryExactly
-unfolding line
+unfolding line Ending
 entry-exactly text x y = (
   read-entry text x y,
   λ r.
-      let t : ends (replicate (r .spaces) space ++ r .rest) ≡ true = rw (spaces-passed (r .spaces) (r .rest)) (comment-kept (r .rest) (r .ending)) in
+      let t : ends (replicate (r .spaces) space ++ r .rest) ≡ true = rw (spaces-passed (r .spaces) (r .rest)) (from-ending (r .rest) (r .ending)) in
       rw (r .whole) (written-entry (r .first) (r .second) (replicate (r .spaces) space ++ r .rest) x y (r .writes-address) (r .writes-word) t),
 )
 

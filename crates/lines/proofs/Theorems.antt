@@ -6,15 +6,15 @@ use mathlib.Core.List.{List, [], _∷_, _++_}
 use Prim.Native.Nat.{ℕ, zero, suc, _+_, _-_, _≤_, _<_, min}
 use native.Mathlib.Decide.{decLt}
 use native.Mathlib.Omega.{arith}
-use borrow.Author.Tests.{eqb-true, eqb-false}
+use borrow.Author.Tests.{eqb-true, eqb-false, eq-eqb, ne-eqb}
 use lib.Dec.{eqb, lit<}
-use lib.ListN.{length, getD, take, drop, length-drop, take-append-drop, drop-of-length-le, List·getD-eq-default}
-use lib.Seq.{drop-length, drop-drop, drop-append-le, take-append-seam, getD-take, getD-drop}
+use lib.ListN.{length, getD, take, drop, length-append, length-drop, drop-of-length-le, List·getD-eq-default}
+use lib.Seq.{drop-drop, drop-append-add, getD-take, getD-drop}
 use Rattle.lines.specs.Lines.{lineFeed, semicolon, prepend, lines, find, firstLine}
 use Rattle.lines.specs.Comment.{lineFrom}
-use Rattle.lines.specs.Theorems.{lineAt, written, LinesWritten, startAfter, LinesStart, FindFirst, CommentStands}
+use Rattle.lines.specs.Theorems.{lineAt, written, LinesWritten, startAfter, LinesStart, FindFirst, CommentExactly}
 use Rattle.lines.proofs.Places.{find-le, first-length}
-use Rattle.lines.proofs.Front.{front}
+use Rattle.lines.proofs.Front.{front, first-in}
 
 -- the byte that was looked for stands where it was found
 found : (b : ℕ) (t : List ℕ) → find b t < length t → getD t (find b t) 0 ≡ b
@@ -128,30 +128,27 @@ lines-written listing = (
       ],
 )
 
--- past the end there is nothing left, from wherever
-same-rest : (s : List ℕ) (i : ℕ) → drop (min i (length s)) s ≡ drop i s
-same-rest s i =
-    elim (decLt i (length s)) [
-      | yes l ↦ let e : min i (length s) ≡ i = omega arith in ap (λ (k : ℕ). drop k s) e
-      | no l ↦
-          let h : length s ≤ i = omega arith in
-          let e : min i (length s) ≡ length s = omega arith in ap (λ (k : ℕ). drop k s) e ∙ drop-length s ∙ sym (drop-of-length-le s h)
-    ]
+-- a byte that is found behind others
+found-behind : (b : ℕ) (before after : List ℕ) → ((j : ℕ) → getD before j 0 ≡ b → ⊥) → find b (before ++ (b ∷ after)) ≡ length before
+unfolding find
+found-behind b [] after n = rw (eq-eqb b b refl)
+found-behind b (x ∷ before) after n = rw (ne-eqb x b (n 0)) (ap suc (found-behind b before after (λ j. n (suc j))))
 
--- the end of a front, k bytes from its start, stands k bytes further on in the whole
-further : (t : List ℕ) (n k : ℕ) → k ≤ length (take n t) → take (length (drop k (take n t))) (drop k t) ≡ drop k (take n t)
-further t n k h =
-    ap (λ (l : List ℕ). take (length (drop k (take n t))) (drop k l)) (sym (take-append-drop n t))
-    ∙ ap (take (length (drop k (take n t)))) (drop-append-le k (take n t) (drop n t) h)
-    ∙ take-append-seam (drop k (take n t)) (drop n t)
+-- or nowhere
+found-nowhere : (b : ℕ) (t : List ℕ) → ((j : ℕ) → getD t j 0 ≡ b → ⊥) → find b t ≡ length t
+found-nowhere b t n =
+    elim (decLt (find b t) (length t)) [ yes l ↦ absurd (n (find b t) (found b t l)) | no l ↦ omega (arith, find-le b t) ]
 
-pub comment-stands : CommentStands
-comment-stands listing offset =
-    let line = lineFrom listing offset in
-    let k = find semicolon line + 1 in
-    let f = further (drop offset listing) (find lineFeed (drop offset listing)) (min k (length line)) (omega arith) in
-    rw (
-      ← same-rest line k,
-      ← drop-drop (min k (length line)) (min offset (length listing)) listing,
-      same-rest listing offset,
-    ) f
+pub comment-exactly : CommentExactly
+comment-exactly listing offset =
+    let line = lineFrom listing offset in (
+      λ before text e n.
+          let f : find semicolon line ≡ length before = ap (find semicolon) e ∙ found-behind semicolon before text n in
+          let l : length line ≡ length before + suc (length text) = ap length e ∙ length-append before (semicolon ∷ text) in (
+            rw (f, e) (drop-append-add before (semicolon ∷ text) 1),
+            omega (arith, f, l, first-in listing offset),
+          ),
+      λ n.
+          let f = found-nowhere semicolon line n in
+          let h : length line ≤ find semicolon line + 1 = omega (arith, f) in (drop-of-length-le line h, omega (arith, f)),
+    )

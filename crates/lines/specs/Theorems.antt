@@ -1,13 +1,18 @@
--- What holds of every listing's lines, of every line and of every comment: six statements, proved in proofs/Theorems.antt.
+-- What holds of every listing's lines, of every line and of every comment: seven statements, proved in proofs/Theorems.antt and
+-- proofs/Grammar.antt.
 use mathlib.Core.Path.{_≡_}
 use mathlib.Core.Logic.{_↔_, _⊎_}
-use mathlib.Core.Bool.{true}
 use mathlib.Core.List.{List, [], _∷_, _++_}
-use Prim.Native.Nat.{ℕ, _+_, _-_, _≤_, _<_}
+use Prim.Native.Nat.{ℕ, _+_, _-_, _*_, _≤_, _<_, min}
 use lib.ListN.{length, getD, take, drop, replicate}
-use Rattle.lines.specs.Lines.{lineFeed, space, lines, find, firstLine, nothingOrComment, numberAt, readLine}
-use Rattle.lines.specs.Comment.{commentText, commentStart}
+use Rattle.digits.specs.Digits.{digitValue}
+use Rattle.lines.specs.Lines.{lineFeed, space, semicolon, lines, find, firstLine, byteAt, numberAt, readLine}
+use Rattle.lines.specs.Comment.{lineFrom, commentText, commentStart}
 use Rattle.lines.specs.declared.Line.the-variants.{Blank, Entry}
+
+-- the value of the digit at a place, 16 where there is none
+abbrev pub digitAt : List ℕ → ℕ → ℕ
+digitAt line i = digitValue (byteAt line i)
 
 abbrev pub lineAt : List ℕ → ℕ → List ℕ
 lineAt listing i = getD (lines listing) i []
@@ -18,7 +23,7 @@ written [] = []
 written (line ∷ rest) = line ++ (lineFeed ∷ written rest)
 
 -- written so, the lines are the listing, but for an LF that the last line may lack; and no line holds one (proved as
--- `lines-written`)
+-- `lines-written`; that no empty line is added at the end is in the next)
 abbrev pub LinesWritten : Type 0
 LinesWritten =
     (listing : List ℕ)
@@ -41,6 +46,15 @@ LinesStart =
     → (startAt listing i < length listing) × ((startAt listing i ≡ 0) ⊎ (getD listing (startAt listing i - 1) 0 ≡ lineFeed))
     × (lineAt listing i ≡ firstLine (drop (startAt listing i) listing))
 
+-- the number at a place is that of four hexadecimal digits there, the first the highest, and no number where one is none (proved as
+-- `number-exactly`)
+abbrev pub NumberExactly : Type 0
+NumberExactly =
+    (line : List ℕ) (i n : ℕ)
+    → ((numberAt line i ≡ n) × (n < 65536))
+    ↔ (((k : ℕ) → k < 4 → digitAt line (i + k) < 16)
+    × (n ≡ ((digitAt line i * 16 + digitAt line (i + 1)) * 16 + digitAt line (i + 2)) * 16 + digitAt line (i + 3)))
+
 -- 'four hex digits', and the number that they write
 abbrev pub Writes : List ℕ → ℕ → Type 0
 Writes digits n = (length digits ≡ 4) × (numberAt digits 0 ≡ n) × (n < 65536)
@@ -53,7 +67,7 @@ pub record EntryLine (line : List ℕ) (address word : ℕ) : Type 0 where
   pub rest : List ℕ
   pub writes-address : Writes first address
   pub writes-word : Writes second word
-  pub ending : nothingOrComment rest ≡ true
+  pub ending : (rest ≡ []) ⊎ ((comment : List ℕ) × (rest ≡ semicolon ∷ comment))
   pub whole : line ≡ first ++ (space ∷ (second ++ (replicate spaces space ++ rest)))
 
 -- a line is read as an entry exactly where it is one, with its address and word (proved as `entry-exactly`)
@@ -64,14 +78,19 @@ EntryExactly = (line : List ℕ) (address word : ℕ) → (readLine line ≡ Ent
 abbrev pub BlankExactly : Type 0
 BlankExactly = (line : List ℕ) → (readLine line ≡ Blank) ↔ ((spaces : ℕ) × (line ≡ replicate spaces space))
 
--- what is looked for stands where it is found, if anywhere, and not before (proved as `find-first`)
+-- what is looked for stands where it is found, if anywhere, and not before; else the place is the end (proved as `find-first`)
 abbrev pub FindFirst : Type 0
 FindFirst =
     (b : ℕ) (t : List ℕ)
     → (find b t ≤ length t) × (find b t < length t → getD t (find b t) 0 ≡ b) × ((j : ℕ) → j < find b t → getD t j 0 ≡ b → ⊥)
 
--- a comment's text stands where the comment starts (proved as `comment-stands`)
-abbrev pub CommentStands : Type 0
-CommentStands =
+-- a comment is what follows the first `;` of the line from the offset on, and starts there; or it is empty, at the end of that line,
+-- where there is none (proved as `comment-exactly`)
+abbrev pub CommentExactly : Type 0
+CommentExactly =
     (listing : List ℕ) (offset : ℕ)
-    → take (length (commentText listing offset)) (drop (commentStart listing offset) listing) ≡ commentText listing offset
+    → ((before text : List ℕ) → lineFrom listing offset ≡ before ++ (semicolon ∷ text) → ((j : ℕ) → getD before j 0 ≡ semicolon → ⊥)
+    → (commentText listing offset ≡ text) × (commentStart listing offset ≡ offset + length before + 1))
+    × (((j : ℕ) → getD (lineFrom listing offset) j 0 ≡ semicolon → ⊥)
+    → (commentText listing offset ≡ [])
+    × (commentStart listing offset ≡ min offset (length listing) + length (lineFrom listing offset)))

@@ -12,8 +12,8 @@ use lib.ListN.{length, getD, take}
 use Rattle.lines.specs.Lines.{readLine}
 use Rattle.lines.specs.Theorems.{startAfter}
 use Rattle.listing.specs.Answers.{Answer, stored, refused}
-use Rattle.listing.specs.Listing.{nextAfter, faultOf, Check, sound, faulty, firstOf, firstFault, answerOf}
-use Rattle.listing.specs.Theorems.{nextOf}
+use Rattle.listing.specs.Listing.{lowestAfter, faultOf, Check, sound, faulty, firstOf, firstFault, answerOf}
+use Rattle.listing.specs.Theorems.{lowestOf}
 
 -- what an answer says of the check
 pub from-refused : (k : Check) (n number start : ℕ) → answerOf k n ≡ refused number start → k ≡ faulty number start
@@ -34,67 +34,67 @@ chosen f start later k = by (eqb f 0) refl where
 module _ (L : ℕ) where
   -- the number of line i's fault among lines
   abbrev pub faultIn : ℕ → List (List ℕ) → ℕ → ℕ
-  faultIn next ls i = faultOf L (nextOf (take i ls) next) (readLine (getD ls i []))
+  faultIn lowest ls i = faultOf L (lowestOf (take i ls) lowest) (readLine (getD ls i []))
 
   -- a line without fault hands on to the rest
-  pub sound-step : (line : List ℕ) (rest : List (List ℕ)) (next start : ℕ) → firstFault L next start (line ∷ rest) ≡ sound
-      → (faultOf L next (readLine line) ≡ 0) × (firstFault L (nextAfter (readLine line) next) (start + (length line + 1)) rest ≡ sound)
+  pub sound-step : (line : List ℕ) (rest : List (List ℕ)) (lowest start : ℕ) → firstFault L lowest start (line ∷ rest) ≡ sound
+      → (faultOf L lowest (readLine line) ≡ 0) × (firstFault L (lowestAfter (readLine line) lowest) (start + (length line + 1)) rest ≡ sound)
   unfolding firstFault
-  sound-step line rest next start e =
+  sound-step line rest lowest start e =
       ⊎-elim (λ p. p) (λ p. let z : _≡_ {A = ℕ} 0 1 = cc (p .1) in absurd (omega arith))
-      (chosen (faultOf L next (readLine line)) start (firstFault L (nextAfter (readLine line) next) (start + (length line + 1)) rest) sound e)
+      (chosen (faultOf L lowest (readLine line)) start (firstFault L (lowestAfter (readLine line) lowest) (start + (length line + 1)) rest) sound e)
 
-  pub sound-all : (ls : List (List ℕ)) (next start : ℕ) → firstFault L next start ls ≡ sound → (i : ℕ) → i < length ls → faultIn next ls i ≡ 0
-  unfolding nextOf
-  sound-all [] next start e i h = absurd (omega arith)
-  sound-all (line ∷ rest) next start e zero h = sound-step line rest next start e .0
-  sound-all (line ∷ rest) next start e (suc i) h =
-      sound-all rest (nextAfter (readLine line) next) (start + (length line + 1)) (sound-step line rest next start e .1) i (le-of-suc-le-suc h)
+  pub sound-all : (ls : List (List ℕ)) (lowest start : ℕ) → firstFault L lowest start ls ≡ sound → (i : ℕ) → i < length ls → faultIn lowest ls i ≡ 0
+  unfolding lowestOf
+  sound-all [] lowest start e i h = absurd (omega arith)
+  sound-all (line ∷ rest) lowest start e zero h = sound-step line rest lowest start e .0
+  sound-all (line ∷ rest) lowest start e (suc i) h =
+      sound-all rest (lowestAfter (readLine line) lowest) (start + (length line + 1)) (sound-step line rest lowest start e .1) i (le-of-suc-le-suc h)
 
-  pub all-sound : (ls : List (List ℕ)) (next start : ℕ) → ((i : ℕ) → i < length ls → faultIn next ls i ≡ 0) → firstFault L next start ls ≡ sound
-  unfolding firstFault nextOf
-  all-sound [] next start z = refl
-  all-sound (line ∷ rest) next start z =
-      rw (z 0 (omega arith)) (all-sound rest (nextAfter (readLine line) next) (start + (length line + 1)) (λ i h. z (suc i) (omega arith)))
+  pub all-sound : (ls : List (List ℕ)) (lowest start : ℕ) → ((i : ℕ) → i < length ls → faultIn lowest ls i ≡ 0) → firstFault L lowest start ls ≡ sound
+  unfolding firstFault lowestOf
+  all-sound [] lowest start z = refl
+  all-sound (line ∷ rest) lowest start z =
+      rw (z 0 (omega arith)) (all-sound rest (lowestAfter (readLine line) lowest) (start + (length line + 1)) (λ i h. z (suc i) (omega arith)))
 
   -- line i is the first that is faulty
   abbrev pub First : ℕ → ℕ → List (List ℕ) → ℕ → ℕ → ℕ → Type 0
-  First next start ls number offset i =
-      (i < length ls) × (faultIn next ls i ≡ number) × (number ≡ 0 → ⊥) × (start + startAfter (take i ls) ≡ offset)
-      × ((j : ℕ) → j < i → faultIn next ls j ≡ 0)
+  First lowest start ls number offset i =
+      (i < length ls) × (faultIn lowest ls i ≡ number) × (number ≡ 0 → ⊥) × (start + startAfter (take i ls) ≡ offset)
+      × ((j : ℕ) → j < i → faultIn lowest ls j ≡ 0)
 
-  pub first-faulty : (ls : List (List ℕ)) (next start number offset i : ℕ) → First next start ls number offset i
-      → firstFault L next start ls ≡ faulty number offset
-  unfolding firstFault nextOf startAfter
-  first-faulty [] next start number offset i f = absurd (omega (arith, f .0))
-  first-faulty (line ∷ rest) next start number offset zero f =
+  pub first-faulty : (ls : List (List ℕ)) (lowest start number offset i : ℕ) → First lowest start ls number offset i
+      → firstFault L lowest start ls ≡ faulty number offset
+  unfolding firstFault lowestOf startAfter
+  first-faulty [] lowest start number offset i f = absurd (omega (arith, f .0))
+  first-faulty (line ∷ rest) lowest start number offset zero f =
       rw (f .1, ne-eqb number 0 (f .2)) (ap (faulty number) (omega (arith, f .3)))
-  first-faulty (line ∷ rest) next start number offset (suc i) f =
+  first-faulty (line ∷ rest) lowest start number offset (suc i) f =
       rw (f .4 0 (omega arith))
-      (first-faulty rest (nextAfter (readLine line) next) (start + (length line + 1)) number offset i
+      (first-faulty rest (lowestAfter (readLine line) lowest) (start + (length line + 1)) number offset i
       (le-of-suc-le-suc (f .0), f .1, f .2, omega (arith, f .3), λ j h. f .4 (suc j) (omega arith)))
 
-  none-before : (line : List ℕ) (rest : List (List ℕ)) (next i : ℕ) → faultOf L next (readLine line) ≡ 0
-      → ((j : ℕ) → j < i → faultIn (nextAfter (readLine line) next) rest j ≡ 0) → (j : ℕ) → j < suc i → faultIn next (line ∷ rest) j ≡ 0
-  unfolding nextOf
-  none-before line rest next i f z zero h = f
-  none-before line rest next i f z (suc j) h = z j (le-of-suc-le-suc h)
+  none-before : (line : List ℕ) (rest : List (List ℕ)) (lowest i : ℕ) → faultOf L lowest (readLine line) ≡ 0
+      → ((j : ℕ) → j < i → faultIn (lowestAfter (readLine line) lowest) rest j ≡ 0) → (j : ℕ) → j < suc i → faultIn lowest (line ∷ rest) j ≡ 0
+  unfolding lowestOf
+  none-before line rest lowest i f z zero h = f
+  none-before line rest lowest i f z (suc j) h = z j (le-of-suc-le-suc h)
 
-  pub faulty-first : (ls : List (List ℕ)) (next start number offset : ℕ) → firstFault L next start ls ≡ faulty number offset
-      → (i : ℕ) × First next start ls number offset i
-  unfolding firstFault nextOf startAfter
-  faulty-first [] next start number offset e = let z : _≡_ {A = ℕ} 0 1 = cc in absurd (omega arith)
-  faulty-first (line ∷ rest) next start number offset e =
-      let next′ = nextAfter (readLine line) next in
+  pub faulty-first : (ls : List (List ℕ)) (lowest start number offset : ℕ) → firstFault L lowest start ls ≡ faulty number offset
+      → (i : ℕ) × First lowest start ls number offset i
+  unfolding firstFault lowestOf startAfter
+  faulty-first [] lowest start number offset e = let z : _≡_ {A = ℕ} 0 1 = cc in absurd (omega arith)
+  faulty-first (line ∷ rest) lowest start number offset e =
+      let lowest′ = lowestAfter (readLine line) lowest in
       let start′ = start + (length line + 1) in
-      let f = faultOf L next (readLine line) in
+      let f = faultOf L lowest (readLine line) in
       ⊎-elim
       (λ p.
-      let r = faulty-first rest next′ start′ number offset (p .1) in
+      let r = faulty-first rest lowest′ start′ number offset (p .1) in
       let q = r .1 in
-      (suc (r .0), (omega (arith, q .0), q .1, q .2, omega (arith, q .3), none-before line rest next (r .0) (p .0) (q .4))))
+      (suc (r .0), (omega (arith, q .0), q .1, q .2, omega (arith, q .3), none-before line rest lowest (r .0) (p .0) (q .4))))
       (λ p.
       let n : f ≡ number = cc (p .1) in
       let o : start ≡ offset = cc (p .1) in
       (zero, (omega arith, n, λ z. p .0 (n ∙ z), omega (arith, o), λ j h. absurd (omega (arith, h)))))
-      (chosen f start (firstFault L next′ start′ rest) (faulty number offset) e)
+      (chosen f start (firstFault L lowest′ start′ rest) (faulty number offset) e)

@@ -5,3 +5,4 @@ pub mod Faults
 pub mod Stores
 pub mod Theorems
 pub mod Numbers
+pub mod Counts

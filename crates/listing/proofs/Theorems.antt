@@ -9,10 +9,11 @@ use Rattle.lines.specs.Lines.{lines}
 use Rattle.lines.proofs.Entries.{entry-words}
 use Rattle.listing.specs.Answers.{stored, refused}
 use Rattle.listing.specs.Listing.{Check, sound, faulty, wordsIn, storeLines, answerOf, memoryOf, checkOf, listingAnswer, listingMemory}
-use Rattle.listing.specs.Theorems.{RefusedExactly, RefusedUnchanged, StoredExactly, StoredAtMost, Rising, WordsStored, StoredTwice}
+use Rattle.listing.specs.Theorems.{RefusedExactly, RefusedUnchanged, StoredExactly, CountExactly, StoredAtMost, Rising, WordsStored, StoredTwice}
 use Rattle.listing.proofs.Decided.{accepted, refuses}
 use Rattle.listing.proofs.Faults.{from-refused, from-stored, sound-all, all-sound, first-faulty, faulty-first}
-use Rattle.listing.proofs.Stores.{length-lines, others, same, said, lowest, rises, at-most}
+use Rattle.listing.proofs.Counts.{places}
+use Rattle.listing.proofs.Stores.{length-lines, others, same, said, bounded, rises, at-most}
 
 pub refused-exactly : RefusedExactly
 unfolding listingAnswer checkOf
@@ -41,12 +42,18 @@ stored-exactly listing L count = (
   λ f. ap (λ (k : Check). answerOf k (wordsIn (lines listing))) (all-sound L (lines listing) 0 0 (f .0)) ∙ ap stored (sym (f .1)),
 )
 
+pub count-exactly : CountExactly
+count-exactly listing L count e =
+    let p = places (lines listing) in
+    let s = is-sound listing L count e .1 in
+    rw s (p .place, p .rise, p .there, p .all)
+
 pub stored-at-most : StoredAtMost
 unfolding checkOf
 stored-at-most listing L count e =
     let s = is-sound listing L count e in
     let ls = lines listing in
-    let m = at-most L L ls 0 0 (s .0) (λ i a w p. lowest L ls 0 0 (s .0) i a w p .0) (omega arith) in
+    let m = at-most L L ls 0 0 (s .0) (λ i a w p. bounded L ls 0 0 (s .0) i a w p .0) (omega arith) in
     let n = at-most L 65536 ls 0 0 (s .0) (λ i a w p. entry-words (getD ls i []) a w p .0) (omega arith) in
     (omega (arith, m, s .1), omega (arith, n, s .1))
 
@@ -54,7 +61,7 @@ pub rising : Rising
 unfolding checkOf
 rising listing L count e =
     let s = is-sound listing L count e in
-    (λ i a w p. lowest L (lines listing) 0 0 (s .0) i a w p .0, λ i j a b w v h p q. rises L (lines listing) 0 0 (s .0) i j a b w v h p q)
+    (λ i a w p. bounded L (lines listing) 0 0 (s .0) i a w p .0, λ i j a b w v h p q. rises L (lines listing) 0 0 (s .0) i j a b w v h p q)
 
 pub words-stored : WordsStored
 unfolding checkOf

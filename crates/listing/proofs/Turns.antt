@@ -14,7 +14,7 @@ use Rattle.lines.proofs.Places.{to-end}
 use Rattle.lines.proofs.Front.{front-at, first-in}
 use Rattle.listing.specs.Answers.{faultNumber}
 use Rattle.listing.specs.declared.Fault.{Fault}
-use Rattle.listing.specs.Listing.{nextAfter, faultOf, sound, faulty, firstFault, wordsOf, wordsIn, storeLine, storeLines}
+use Rattle.listing.specs.Listing.{lowestAfter, faultOf, sound, faulty, firstFault, wordsOf, wordsIn, storeLine, storeLines}
 
 pub numbered : (fault : Fault) → faultNumber fault ≡ 0 → ⊥
 numbered Fault.IllFormed e = omega (arith, e)
@@ -47,15 +47,15 @@ turn s at {x} {n} h read =
     }
 
 module _ {s : List ℕ} {at : ℕ} {x : Line} {n : ℕ} (t : Turn s at x n) where
-  pub sound-line : (L next : ℕ) → faultOf L next x ≡ 0
-      → firstFault L next at (lines (drop at s)) ≡ firstFault L (nextAfter x next) (at + (n + 1)) (lines (drop (at + (n + 1)) s))
+  pub sound-line : (L lowest : ℕ) → faultOf L lowest x ≡ 0
+      → firstFault L lowest at (lines (drop at s)) ≡ firstFault L (lowestAfter x lowest) (at + (n + 1)) (lines (drop (at + (n + 1)) s))
   unfolding firstFault
-  sound-line L next f = rw (t .splits, ← t .says, ← t .long, f)
+  sound-line L lowest f = rw (t .splits, ← t .says, ← t .long, f)
 
-  pub faulty-line : (L next number : ℕ) → faultOf L next x ≡ number → (number ≡ 0 → ⊥)
-      → firstFault L next at (lines (drop at s)) ≡ faulty number at
+  pub faulty-line : (L lowest number : ℕ) → faultOf L lowest x ≡ number → (number ≡ 0 → ⊥)
+      → firstFault L lowest at (lines (drop at s)) ≡ faulty number at
   unfolding firstFault
-  faulty-line L next number f z = rw (t .splits, ← t .says, f, ne-eqb number 0 z)
+  faulty-line L lowest number f z = rw (t .splits, ← t .says, f, ne-eqb number 0 z)
 
   pub counted : wordsIn (lines (drop at s)) ≡ wordsOf x + wordsIn (lines (drop (at + (n + 1)) s))
   unfolding wordsIn
@@ -67,9 +67,9 @@ module _ {s : List ℕ} {at : ℕ} {x : Line} {n : ℕ} (t : Turn s at x n) wher
   stored-line memory = rw (t .splits, t .says)
 
 -- past the last line
-pub no-fault : (s : List ℕ) (L next at : ℕ) → length s ≤ at → firstFault L next at (lines (drop at s)) ≡ sound
+pub no-fault : (s : List ℕ) (L lowest at : ℕ) → length s ≤ at → firstFault L lowest at (lines (drop at s)) ≡ sound
 unfolding firstFault lines
-no-fault s L next at h = rw (drop-of-length-le s h)
+no-fault s L lowest at h = rw (drop-of-length-le s h)
 
 pub no-words : (s : List ℕ) (at : ℕ) → length s ≤ at → wordsIn (lines (drop at s)) ≡ 0
 unfolding wordsIn lines

@@ -10,21 +10,21 @@ use Rattle.lines.specs.declared.Line.{Line}
 use Rattle.lines.specs.declared.Line.the-variants.{Blank, Entry, IllFormed}
 use Rattle.listing.specs.Answers.{Answer, stored, refused}
 
--- one past the address last read, 0 if none was: 'addresses strictly rise', so the next is this or higher
-abbrev pub nextAfter : Line → ℕ → ℕ
-nextAfter Blank next = next
-nextAfter (Entry address word) next = address + 1
-nextAfter IllFormed next = next
+-- 'addresses strictly rise': the lowest that a line may say is one past the address last read, 0 if none was
+abbrev pub lowestAfter : Line → ℕ → ℕ
+lowestAfter Blank lowest = lowest
+lowestAfter (Entry address word) lowest = address + 1
+lowestAfter IllFormed lowest = lowest
 
 -- '4: address at or past L', before '3: address not above the one before'; 0 where it is neither
 abbrev pub addressFault : ℕ → ℕ → ℕ → ℕ
-addressFault L next address = cond (leb L address) 4 (cond (ltb address next) 3 0)
+addressFault L lowest address = cond (leb L address) 4 (cond (ltb address lowest) 3 0)
 
 -- the number of a line's fault, 0 where it has none: an ill-formed line has no address, so 2 comes first in the 'order 2, 4, 3'
 abbrev pub faultOf : ℕ → ℕ → Line → ℕ
-faultOf L next Blank = 0
-faultOf L next (Entry address word) = addressFault L next address
-faultOf L next IllFormed = 2
+faultOf L lowest Blank = 0
+faultOf L lowest (Entry address word) = addressFault L lowest address
+faultOf L lowest IllFormed = 2
 
 -- what checking finds: no fault, or the first with its number and the offset of its line's start
 pub data Check : Type 0 where
@@ -34,12 +34,12 @@ pub data Check : Type 0 where
 abbrev pub firstOf : ℕ → ℕ → Check → Check
 firstOf number start later = cond (eqb number 0) later (faulty number start)
 
--- the 'first faulty line' of lines of which the first starts at an offset; a line and its LF on starts the next
+-- the 'first faulty line' of lines of which the first starts at an offset; the next starts past a line and its LF
 unfoldable pub firstFault : ℕ → ℕ → ℕ → List (List ℕ) → Check
-firstFault L next start [] = sound
-firstFault L next start (line ∷ rest) =
-    firstOf (faultOf L next (readLine line)) start
-    (firstFault L (nextAfter (readLine line) next) (start + (length line + 1)) rest)
+firstFault L lowest start [] = sound
+firstFault L lowest start (line ∷ rest) =
+    firstOf (faultOf L lowest (readLine line)) start
+    (firstFault L (lowestAfter (readLine line) lowest) (start + (length line + 1)) rest)
 
 -- how many words a line has, and all lines have
 abbrev pub wordsOf : Line → ℕ

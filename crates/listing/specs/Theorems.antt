@@ -1,4 +1,4 @@
--- What holds of every listing and memory: eight statements, proved in proofs/Theorems.antt.
+-- What holds of every listing and memory: nine statements, proved in proofs/Theorems.antt.
 use mathlib.Core.Path.{_≡_}
 use mathlib.Core.Logic.{_↔_, _⊎_}
 use mathlib.Core.List.{List, [], _∷_}
@@ -9,16 +9,16 @@ use Rattle.lines.specs.Lines.{lines, readLine}
 use Rattle.lines.specs.Theorems.{lineAt, startAt}
 use Rattle.lines.specs.declared.Line.the-variants.{Entry, IllFormed}
 use Rattle.listing.specs.Answers.{stored, refused}
-use Rattle.listing.specs.Listing.{nextAfter, faultOf, wordsIn, listingAnswer, listingMemory}
+use Rattle.listing.specs.Listing.{lowestAfter, faultOf, wordsIn, listingAnswer, listingMemory}
 
--- one past the last address that lines say, with the one from before them
-unfoldable pub nextOf : List (List ℕ) → ℕ → ℕ
-nextOf [] next = next
-nextOf (line ∷ rest) next = nextOf rest (nextAfter (readLine line) next)
+-- the lowest address that the line after some lines may say
+unfoldable pub lowestOf : List (List ℕ) → ℕ → ℕ
+lowestOf [] lowest = lowest
+lowestOf (line ∷ rest) lowest = lowestOf rest (lowestAfter (readLine line) lowest)
 
 -- the number of line i's fault, 0 where it has none
 abbrev pub faultAt : List ℕ → ℕ → ℕ → ℕ
-faultAt listing L i = faultOf L (nextOf (take i (lines listing)) 0) (readLine (lineAt listing i))
+faultAt listing L i = faultOf L (lowestOf (take i (lines listing)) 0) (readLine (lineAt listing i))
 
 -- line i says that a word goes to an address
 abbrev pub Says : List ℕ → ℕ → ℕ → ℕ → Type 0
@@ -29,8 +29,8 @@ abbrev pub Before : List ℕ → ℕ → ℕ → Type 0
 Before listing i b =
     (j : ℕ) × (w : ℕ) × (j < i) × Says listing j b w × ((k a v : ℕ) → j < k → k < i → Says listing k a v → ⊥)
 
--- '2: line ill-formed. 3: address not above the one before. 4: address at or past L', 4 before 3; there is no other number (proved as
--- `numbers`)
+-- '2: line ill-formed. 3: address not above the one before. 4: address at or past L', 4 before 3; 0 is no fault, and there is no
+-- other number (proved as `numbers`)
 abbrev pub Numbers : Type 0
 Numbers =
     (listing : List ℕ) (L i : ℕ)
@@ -61,6 +61,16 @@ StoredExactly =
     (listing : List ℕ) (L count : ℕ)
     → (listingAnswer listing L ≡ stored count)
     ↔ (((i : ℕ) → i < length (lines listing) → faultAt listing L i ≡ 0) × (count ≡ wordsIn (lines listing)))
+
+-- counted one by one: the words are at that many places among the lines, in order, and no other line has one (proved as
+-- `count-exactly`)
+abbrev pub CountExactly : Type 0
+CountExactly =
+    (listing : List ℕ) (L count : ℕ) → listingAnswer listing L ≡ stored count
+    → (place : ℕ → ℕ)
+    × ((j k : ℕ) → j < k → k < count → place j < place k)
+    × ((k : ℕ) → k < count → (a : ℕ) × (w : ℕ) × Says listing (place k) a w)
+    × ((i a w : ℕ) → Says listing i a w → (k : ℕ) × (k < count) × (place k ≡ i))
 
 -- which is at most the length of the memory, and at most 65,536 (proved as `stored-at-most`)
 abbrev pub StoredAtMost : Type 0

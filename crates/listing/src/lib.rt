@@ -4,7 +4,7 @@ ghost use Prim.Native.Nat.{_≤_};
 ghost use lib.ListN.{length};
 ghost use Rattle.lines.specs.Lines.{lines};
 ghost use Rattle.listing.specs.Answers.{verdictNumber, storeAnswer};
-ghost use Rattle.listing.specs.Listing.{nextAfter, addressFault, faultOf, wordsOf, storeLine, storeLines, listingAnswer, listingMemory};
+ghost use Rattle.listing.specs.Listing.{lowestAfter, addressFault, faultOf, wordsOf, storeLine, storeLines, listingAnswer, listingMemory};
 use lines::Line;
 
 // What is wrong with a line.
@@ -25,35 +25,35 @@ pub enum StoreAnswer {
     Refused(Fault, usize),
 }
 
-fn judge_address(limit: usize, next: u32, address: u16) -> Verdict
-    ensures { λ r. ⌜ verdictNumber r ≡ addressFault limit next address ⌝ }
+fn judge_address(limit: usize, lowest: u32, address: u16) -> Verdict
+    ensures { λ r. ⌜ verdictNumber r ≡ addressFault limit lowest address ⌝ }
 {
     if limit <= address as usize {
         return Verdict::Failed(Fault::PastEnd);
     }
-    if (address as u32) < next {
+    if (address as u32) < lowest {
         return Verdict::Failed(Fault::NotAbove);
     }
     Verdict::Passed
 }
 
-fn judge(limit: usize, next: u32, line: Line) -> Verdict
-    ensures { λ r. ⌜ verdictNumber r ≡ faultOf limit next line ⌝ }
+fn judge(limit: usize, lowest: u32, line: Line) -> Verdict
+    ensures { λ r. ⌜ verdictNumber r ≡ faultOf limit lowest line ⌝ }
 {
     match line {
         Line::Blank => Verdict::Passed,
-        Line::Entry { address, word: _ } => judge_address(limit, next, address),
+        Line::Entry { address, word: _ } => judge_address(limit, lowest, address),
         Line::IllFormed => Verdict::Failed(Fault::IllFormed),
     }
 }
 
-fn next_after(line: Line, next: u32) -> u32
-    ensures { λ r. ⌜ r ≡ nextAfter line next ⌝ }
+fn lowest_after(line: Line, lowest: u32) -> u32
+    ensures { λ r. ⌜ r ≡ lowestAfter line lowest ⌝ }
 {
     match line {
-        Line::Blank => next,
+        Line::Blank => lowest,
         Line::Entry { address, word: _ } => address as u32 + 1,
-        Line::IllFormed => next,
+        Line::IllFormed => lowest,
     }
 }
 
@@ -70,20 +70,21 @@ fn words_of(line: Line) -> usize
     }
 }
 
+// What a store of the listing answers, with nothing stored yet.
 fn check(listing: &[u8], limit: usize) -> StoreAnswer
     ensures { λ r. ⌜ storeAnswer r ≡ listingAnswer (now (listing .entry)) limit ⌝ }
 {
     let mut at = 0;
-    let mut next: u32 = 0;
+    let mut lowest: u32 = 0;
     let mut count = 0;
     while at < listing.len() {
         let read = lines::read_line(&listing[at..]);
         let line = read.line;
-        let verdict = judge(limit, next, line);
+        let verdict = judge(limit, lowest, line);
         if let Verdict::Failed(fault) = verdict {
             return StoreAnswer::Refused(fault, at);
         }
-        next = next_after(line, next);
+        lowest = lowest_after(line, lowest);
         count += words_of(line);
         at += read.length + 1;
     }
@@ -112,8 +113,8 @@ fn store_lines(listing: &[u8], memory: &mut [u16])
     }
 }
 
-// The checked store: a listing with a fault changes nothing. Every length of memory is taken as it is: those that number 1 is
-// for, too.
+// The checked store: a listing with a fault changes nothing. Every length of memory is taken as it is, 0 and above 65,536 too,
+// which number 1 is for.
 pub fn store(listing: &[u8], memory: &mut [u16]) -> StoreAnswer
     ensures answer { λ r. ⌜ storeAnswer r ≡ listingAnswer (now (listing .entry)) (length (now (memory .entry))) ⌝ }
     ensures memory { λ _. ⌜ now (memory .exit) ≡ listingMemory (now (listing .entry)) (now (memory .entry)) ⌝ }

@@ -13,14 +13,14 @@ use Rattle.listing.proofs.check.Statement.{statement}
 use Rattle.listing.proofs.check.Tie as tie
 
 abbrev Inv-loop : tie.InvT-loop
-Inv-loop listing limit at₀ next₀ count₀ at next count =
-    (firstFault limit 0 0 (lines listing) ≡ firstFault limit next at (lines (drop at listing)))
+Inv-loop listing limit at₀ lowest₀ count₀ at lowest count =
+    (firstFault limit 0 0 (lines listing) ≡ firstFault limit lowest at (lines (drop at listing)))
     × (wordsIn (lines listing) ≡ count + wordsIn (lines (drop at listing)))
     × (at ≤ length listing + 1)
     × (count ≤ at)
 
 abbrev μ-loop : tie.MeasureT-loop
-μ-loop listing limit at₀ next₀ count₀ at next count = length listing + 1 - at
+μ-loop listing limit at₀ lowest₀ count₀ at lowest count = length listing + 1 - at
 
 loop-holds : tie.Need-loop-holds Inv-loop μ-loop
 loop-holds c = (refl, omega arith, omega arith, omega arith)
@@ -54,14 +54,14 @@ returns c =
     let f = c .before .verdict .given in
     rw (
       l .loop .inv .0,
-      faulty-line t (s .limit) (l .loop .next) (faultNumber (f .0 .0)) (sym v ∙ ap verdictNumber (f .1)) (numbered (f .0 .0)),
+      faulty-line t (s .limit) (l .loop .lowest) (faultNumber (f .0 .0)) (sym v ∙ ap verdictNumber (f .1)) (numbered (f .0 .0)),
     )
 
 enum-told : tie.Need-enum-told Inv-loop μ-loop
 enum-told c = search needs
 
-next-after-requires : tie.Need-next-after-requires Inv-loop μ-loop
-next-after-requires c κs = search needs
+lowest-after-requires : tie.Need-lowest-after-requires Inv-loop μ-loop
+lowest-after-requires c κs = search needs
 
 words-of-requires : tie.Need-words-of-requires Inv-loop μ-loop
 words-of-requires c κs = search needs
@@ -98,9 +98,9 @@ loop-again c =
     let t = turn (s .listing .now) (l .loop .at) (r .before .before .loop-test .taken) (r .read-line .ensures) in
     let v = c .before .before .before .before .before .judge .ensures in
     let w = c .before .words-of .ensures in (
-      rw (c .before .before .next-after .ensures)
+      rw (c .before .before .lowest-after .ensures)
           (l .loop .inv .0
-          ∙ sound-line t (s .limit) (l .loop .next) (sym v ∙ ap verdictNumber (c .before .before .before .enum-told .given .1))),
+          ∙ sound-line t (s .limit) (l .loop .lowest) (sym v ∙ ap verdictNumber (c .before .before .before .enum-told .given .1))),
       omega (arith, l .loop .inv .1, w, counted t),
       t .within,
       omega (arith, w, words-le (r .read-line .result .line), l .loop .inv .3),
@@ -111,7 +111,7 @@ unfolding listingAnswer checkOf
 returns-2 c =
     let l = c .before in
     let s = l .before .before .args in
-    rw (l .loop .inv .0, no-fault (s .listing .now) (s .limit) (l .loop .next) (l .loop .at) (c .loop-test .left))
+    rw (l .loop .inv .0, no-fault (s .listing .now) (s .limit) (l .loop .lowest) (l .loop .at) (c .loop-test .left))
     (ap stored (omega (arith, l .loop .inv .1, no-words (s .listing .now) (l .loop .at) (c .loop-test .left))))
 
 pub check-spec : {M : Type 1} → statement M
@@ -129,7 +129,7 @@ check-spec =
     enum-known-verdict
     returns
     enum-told
-    next-after-requires
+    lowest-after-requires
     words-of-requires
     add-count
     add-at

@@ -1,7 +1,7 @@
--- `listing::next_after` meets its contract. Assumes nothing.
+-- `listing::lowest_after` meets its contract. Assumes nothing.
 use borrow.Author.Needs.{needs}
-use Rattle.listing.proofs.next_after.Statement.{statement}
-use Rattle.listing.proofs.next_after.Tie as tie
+use Rattle.listing.proofs.lowest_after.Statement.{statement}
+use Rattle.listing.proofs.lowest_after.Tie as tie
 
 enum-told : tie.Need-enum-told
 enum-told c = search needs
@@ -27,8 +27,8 @@ returns-2 c = rw (c .before .line .given .1)
 returns-3 : tie.Need-returns-3
 returns-3 c = search needs
 
-pub next-after-spec : {M : Type 1} → statement M
-next-after-spec =
+pub lowest-after-spec : {M : Type 1} → statement M
+lowest-after-spec =
     tie.close
     (tie.spec
     enum-told
