@@ -1,4 +1,5 @@
--- What holds of every listing and memory: nine statements, proved in proofs/Theorems.antt.
+-- What holds of every listing and memory: nine statements, proved in proofs/Theorems.antt and
+-- proofs/Numbers.antt.
 use mathlib.Core.Path.{_≡_}
 use mathlib.Core.Logic.{_↔_, _⊎_}
 use mathlib.Core.List.{List, [], _∷_}

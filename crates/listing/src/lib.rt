@@ -1,6 +1,5 @@
 // A listing checked, and stored into a lent memory: all lines are checked before a word is written.
 ghost use mathlib.Core.Path.{_≡_};
-ghost use Prim.Native.Nat.{_≤_};
 ghost use lib.ListN.{length};
 ghost use Rattle.lines.specs.Lines.{lines};
 ghost use Rattle.listing.specs.Answers.{verdictNumber, storeAnswer};
