@@ -1,0 +1,105 @@
+-- `core::Core::later_cycle` meets its contract: by the cycle due. Assumes nothing.
+use mathlib.Core.Path.{ap, sym, _∙_}
+use native.Mathlib.Omega.{arith}
+use borrow.Author.Needs.{needs}
+use Rattle.core.specs.Datapath.{isLast, withEffect, turn}
+use Rattle.core.specs.declared.Core.{Core}
+use Rattle.effects.specs.declared.Store.the-variants.{Nothing}
+use Rattle.effects.specs.declared.Effect.{Effect}
+use Rattle.effects.specs.Cycles.{stopOf, writtenBack}
+use Rattle.core.proofs.Cycles.{second-cycle, third-cycle, fourth-cycle, no-cycle-due, second-keeps}
+use Rattle.core.proofs.Core.later_cycle.Statement.{statement}
+use Rattle.core.proofs.Core.later_cycle.Tie as tie
+
+is-last-requires : tie.Need-is-last-requires
+is-last-requires c κs = search needs
+
+stop-or-latch-requires : tie.Need-stop-or-latch-requires
+stop-or-latch-requires c κs = search needs
+
+turn-requires : tie.Need-turn-requires
+turn-requires c κs =
+    let before = c .before .before .before .before .args in
+    let keeps = second-keeps (stopOf (before .kind)) (before .kind) (before .self) in
+    let clock = ap (λ (core : Core). core .clock .0) (c .stop-or-latch .ensures) ∙ keeps .0 in
+    let due = ap (λ (core : Core). core .due) (c .stop-or-latch .ensures) ∙ keeps .1 in
+    (omega (arith, c .before .before .before .before .pre), omega (arith, c .before .if1 .taken))
+
+returns : tie.Need-returns
+returns c =
+    let before = c .before .before .before .before .before .args in
+    let last = c .before .before .before .is-last .ensures in
+    let core = c .before .stop-or-latch .ensures in
+    c .turn .ensures
+    ∙ (λ j. turn (last j) (core j) Nothing)
+    ∙ sym (second-cycle (before .memory .now) (before .self) (before .kind) (c .before .before .if1 .taken))
+
+calculate-requires : tie.Need-calculate-requires
+calculate-requires c κs = search needs
+
+turn-requires-2 : tie.Need-turn-requires-2
+turn-requires-2 c κs =
+    let clock = ap (λ (core : Core). core .clock .0) (c .calculate .ensures) in
+    let due = ap (λ (core : Core). core .due) (c .calculate .ensures) in
+    (omega (arith, c .before .before .before .before .before .pre), omega (arith, c .before .if2 .taken))
+
+returns-2 : tie.Need-returns-2
+returns-2 c =
+    let before = c .before .before .before .before .before .before .args in
+    let last = c .before .before .before .before .is-last .ensures in
+    let core = c .before .calculate .ensures in
+    c .turn2 .ensures
+    ∙ (λ j. turn (last j) (core j) Nothing)
+    ∙ sym (third-cycle (before .memory .now) (before .self) (before .kind) (c .before .before .if2 .taken))
+
+reach-requires : tie.Need-reach-requires
+reach-requires c κs = search needs
+
+write-back-requires : tie.Need-write-back-requires
+write-back-requires c κs = search needs
+
+with-effect-requires : tie.Need-with-effect-requires
+with-effect-requires c κs = search needs
+
+turn-requires-3 : tie.Need-turn-requires-3
+turn-requires-3 c κs =
+    let clock = ap (λ (core : Core). core .clock .0) (c .with-effect .ensures) in
+    let due = ap (λ (core : Core). core .due) (c .with-effect .ensures) in
+    (omega (arith, c .before .before .before .before .before .before .before .before .pre), omega (arith, c .before .before .before .if3 .taken))
+
+returns-3 : tie.Need-returns-3
+returns-3 c =
+    let before = c .before .before .before .before .before .before .before .before .before .args in
+    let last = c .before .before .before .before .before .before .before .is-last .ensures in
+    let self = before .self in
+    let effect =
+    c .before .before .write-back .ensures
+    ∙ ap (writtenBack (before .kind) (self .rb) (self .ralu) (before .memory .now)) (c .before .before .before .reach .ensures) in
+    let core = c .before .with-effect .ensures in
+    c .turn3 .ensures
+    ∙ (λ j. turn (last j) (core j) (c .before .before .write-back .result .store))
+    ∙ ap (λ (effect : Effect). turn (isLast (before .kind) self) (withEffect effect self) (effect .store)) effect
+    ∙ sym (fourth-cycle (before .memory .now) self (before .kind) (c .before .before .before .before .if3 .taken))
+
+returns-4 : tie.Need-returns-4
+returns-4 c =
+    let before = c .before .before .before .before .before .args in
+    sym (no-cycle-due (before .memory .now) (before .self) (before .kind) (c .before .before .if1 .left) (c .before .if2 .left) (c .if3 .left))
+
+pub later-cycle-spec : {M : Type 1} → statement M
+later-cycle-spec =
+    tie.close
+    (tie.spec
+    is-last-requires
+    stop-or-latch-requires
+    turn-requires
+    returns
+    calculate-requires
+    turn-requires-2
+    returns-2
+    reach-requires
+    write-back-requires
+    with-effect-requires
+    turn-requires-3
+    returns-3
+    returns-4)

@@ -1,0 +1,23 @@
+-- `core::Core::reach` meets its contract: Rt by the field of IR. Assumes nothing.
+use mathlib.Core.Path.{_≡_, ap, _∙_}
+use borrow.Author.Needs.{needs}
+use Rattle.core.specs.State.{register}
+use Rattle.isa.specs.Fields.{fieldT}
+use Rattle.core.proofs.Core.reach.Statement.{statement}
+use Rattle.core.proofs.Core.reach.Tie as tie
+
+field-t-requires : tie.Need-field-t-requires
+field-t-requires c κs = search needs
+
+register-of-requires : tie.Need-register-of-requires
+register-of-requires c κs = search needs
+
+returns : tie.Need-returns
+returns c =
+    let self = c .before .before .before .before .args .self in
+    let rt : c .register-of .result ≡ register (self .regs) (fieldT (self .ir)) =
+    c .register-of .ensures ∙ ap (register (self .regs)) (c .before .field-t .ensures) in
+    rw rt
+
+pub reach-spec : {M : Type 1} → statement M
+reach-spec = tie.close (tie.spec field-t-requires register-of-requires returns)

@@ -1,0 +1,121 @@
+-- Laws of a run's cycles: which cycle is done, and how they follow one another.
+use mathlib.Core.Path.{_≡_, refl, sym, ap, _∙_}
+use mathlib.Core.Bool.{Bool, true, false}
+use mathlib.Core.List.{List}
+use Prim.Native.Nat.{ℕ, zero, suc, _+_, _≤_}
+use native.Mathlib.Omega.{arith}
+use borrow.Author.Tests.{ne-eqb}
+use lib.Dec.{lit≤}
+use native.Mathlib.Nat.{zero-add, suc-add}
+use Rattle.isa.specs.Cost.{countOf, classOf, costOf}
+use Rattle.isa.specs.declared.Class.{Class}
+use Rattle.isa.specs.declared.Class.the-variants.{Stop, Short, Full}
+use Rattle.isa.specs.declared.Flags.{Flags}
+use Rattle.isa.specs.declared.Kind.{Kind}
+use Rattle.table.specs.Table.{kindOf}
+use Rattle.effects.specs.Cycles.{stopOf}
+use Rattle.effects.specs.declared.Stop as stop
+use Rattle.effects.specs.declared.Store.the-variants.{Nothing}
+use Rattle.core.specs.Datapath.{fetched, second, third, fourth, withEffect, turn, isLast, laterCycle, cycled}
+use Rattle.core.specs.State.{Visible}
+use Rattle.core.specs.Instruction.{wordDue, costAt}
+use Rattle.core.specs.Numbers.{isGoing}
+use Rattle.core.specs.Calls.{Progress, advanced, cyclesOn}
+use Rattle.core.specs.declared.Core.{Core}
+
+-- the cycle due is the one that is done
+module _ (M : List ℕ) (core : Core) where
+  pub first-cycle : core .due ≡ 1 → cycled M core ≡ turn false (fetched M core) Nothing
+  unfolding cycled
+  first-cycle e = rw e
+
+  pub later : (core .due ≡ 1 → ⊥) → cycled M core ≡ laterCycle (kindOf (core .ir)) M core
+  unfolding cycled
+  later n = rw (ne-eqb (core .due) 1 n)
+
+  pub second-cycle : (kind : Kind) → core .due ≡ 2
+      → laterCycle kind M core ≡ turn (isLast kind core) (second (stopOf kind) kind core) Nothing
+  unfolding laterCycle
+  second-cycle kind e = rw e
+
+  pub third-cycle : (kind : Kind) → core .due ≡ 3 → laterCycle kind M core ≡ turn (isLast kind core) (third kind core) Nothing
+  unfolding laterCycle
+  third-cycle kind e = rw e
+
+  pub fourth-cycle : (kind : Kind) → core .due ≡ 4
+      → laterCycle kind M core ≡ turn (isLast kind core) (withEffect (fourth kind M core) core) (fourth kind M core .store)
+  unfolding laterCycle
+  fourth-cycle kind e = rw e
+
+  pub no-cycle-due : (kind : Kind) → (core .due ≡ 2 → ⊥) → (core .due ≡ 3 → ⊥) → (core .due ≡ 4 → ⊥)
+      → laterCycle kind M core ≡ record { core = core; finished = false; store = Nothing }
+  unfolding laterCycle
+  no-cycle-due kind n2 n3 n4 = rw (ne-eqb (core .due) 2 n2, ne-eqb (core .due) 3 n3, ne-eqb (core .due) 4 n4)
+
+-- cycle 2 itself leaves the clock, and the cycle due
+pub second-keeps : (s : stop.Stop) (k : Kind) (c : Core) → (second s k c .clock .0 ≡ c .clock .0) × (second s k c .due ≡ c .due)
+second-keeps stop.the-variants.Going k c = (refl, refl)
+second-keeps stop.the-variants.Halted k c = (refl, refl)
+second-keeps stop.the-variants.Undefined k c = (refl, refl)
+
+-- a going core does one cycle more, a stopped one none
+pub one-more : (n : ℕ) (p : Progress) → isGoing (p .core .stop) ≡ true → cyclesOn (suc n) p ≡ cyclesOn n (advanced p)
+unfolding cyclesOn
+one-more n p e = rw e
+
+pub none-more : (n : ℕ) (p : Progress) → isGoing (p .core .stop) ≡ false → cyclesOn n p ≡ p
+unfolding cyclesOn
+none-more zero p e = refl
+none-more (suc n) p e = rw e
+
+pub no-cycle : (p : Progress) → cyclesOn 0 p ≡ p
+unfolding cyclesOn
+no-cycle p = refl
+
+-- cycles one after the other
+pub cycles-add : (m n : ℕ) (p : Progress) → cyclesOn (m + n) p ≡ cyclesOn n (cyclesOn m p)
+cycles-add zero n p = ap (λ (m : ℕ). cyclesOn m p) (zero-add n) ∙ ap (cyclesOn n) (sym (no-cycle p))
+cycles-add (suc m) n p = by (isGoing (p .core .stop)) refl (cycles-add m n (advanced p))
+  where
+    by : (g : Bool) → isGoing (p .core .stop) ≡ g → cyclesOn (m + n) (advanced p) ≡ cyclesOn n (cyclesOn m (advanced p))
+        → cyclesOn (suc m + n) p ≡ cyclesOn n (cyclesOn (suc m) p)
+    by true e ih =
+        ap (λ (m : ℕ). cyclesOn m p) (suc-add m n) ∙ one-more (m + n) p e ∙ ih ∙ ap (cyclesOn n) (sym (one-more m p e))
+    by false e ih = none-more (suc m + n) p e ∙ sym (none-more n p e) ∙ ap (cyclesOn n) (sym (none-more (suc m) p e))
+
+-- cycles and instructions counted before change nothing but the counts
+abbrev pub counted : ℕ → ℕ → Progress → Progress
+counted used finished p =
+    record { core = p .core; memory = p .memory; used = used + p .used; finished = finished + p .finished }
+
+advanced-counted : (u f : ℕ) (p : Progress) → advanced (counted u f p) ≡ counted u f (advanced p)
+unfolding advanced
+advanced-counted u f p =
+    let q = advanced p in
+    let used : advanced (counted u f p) .used ≡ u + q .used = omega arith in
+    let finished : advanced (counted u f p) .finished ≡ f + q .finished = omega arith in
+    λ j. record { core = q .core; memory = q .memory; used = used j; finished = finished j }
+
+pub cycles-counted : (n u f : ℕ) (p : Progress) → cyclesOn n (counted u f p) ≡ counted u f (cyclesOn n p)
+cycles-counted zero u f p = no-cycle (counted u f p) ∙ ap (counted u f) (sym (no-cycle p))
+cycles-counted (suc n) u f p = by (isGoing (p .core .stop)) refl (cycles-counted n u f (advanced p))
+  where
+    by : (g : Bool) → isGoing (p .core .stop) ≡ g → cyclesOn n (counted u f (advanced p)) ≡ counted u f (cyclesOn n (advanced p))
+        → cyclesOn (suc n) (counted u f p) ≡ counted u f (cyclesOn (suc n) p)
+    by true e ih =
+        one-more n (counted u f p) e ∙ ap (cyclesOn n) (advanced-counted u f p) ∙ ih ∙ ap (counted u f) (sym (one-more n p e))
+    by false e ih = none-more (suc n) (counted u f p) e ∙ ap (counted u f) (sym (none-more (suc n) p e))
+
+-- an instruction costs 2 to 4 cycles
+two-to-four : (class : Class) → (2 ≤ countOf class) × (countOf class ≤ 4)
+two-to-four Stop = (lit≤ tt, lit≤ tt)
+two-to-four Short = (lit≤ tt, lit≤ tt)
+two-to-four Full = (lit≤ tt, lit≤ tt)
+
+pub cost-of-range : (kind : Kind) (flags : Flags) → (2 ≤ costOf kind flags) × (costOf kind flags ≤ 4)
+unfolding costOf
+cost-of-range kind flags = two-to-four (classOf kind flags)
+
+pub cost-range : (M : List ℕ) (v : Visible) → (2 ≤ costAt M v) × (costAt M v ≤ 4)
+unfolding costAt
+cost-range M v = cost-of-range (kindOf (wordDue M v)) (v .flags)

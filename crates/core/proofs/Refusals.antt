@@ -1,0 +1,196 @@
+-- The theorems `RefusedExactly` and `RefusedUnchanged` of specs/TheoremsOfCalls.antt: the tests of each number mean what the theorem says,
+-- and a reply is a refusal exactly where a number applies.
+use mathlib.Core.Path.{_≡_, refl, sym, ap, _∙_}
+use mathlib.Core.Logic.{_↔_, _⊎_, inl, inr}
+use mathlib.Core.Bool.{Bool, true, false, not}
+use mathlib.Core.List.{List, [], _∷_}
+use Prim.Native.Nat.{ℕ, zero, _+_, _<_}
+use native.Mathlib.Omega.{arith}
+use borrow.Author.Tests.{ltb-true, leb-true, leb-false, eqb-true, eqb-false, lt-ltb}
+use lib.Dec.{eqb, ltb, leb}
+use lib.ListN.{length}
+use Rattle.listing.specs.Answers as listing
+use Rattle.listing.specs.Listing.{listingAnswer}
+use Rattle.effects.specs.declared.Stop.{Stop}
+use Rattle.effects.specs.declared.Stop.the-variants.{Going, Halted, Undefined}
+use Rattle.core.specs.Numbers.{wrongLength, isGoing, clockFull, firstOf, loadNumber, runNumber, stepNumber, viewNumber}
+use Rattle.core.specs.Calls.{Answer, stored, ran, viewed, refused, dueOne, dueInRange, Reply, unless, loadAnswer, loadedReply, viewedReply, ranReply, steppedReply, cyclesOn, starting, reset, load, view, run, step}
+use Rattle.core.specs.TheoremsOfCalls.{First, loadNumbers, runNumbers, stepNumbers, viewNumbers, RefusedExactly, RefusedUnchanged}
+use Rattle.core.specs.State.{Visible, visibleOf}
+use Rattle.core.specs.Instruction.{costAt, instructed}
+use Rattle.core.specs.declared.Core.{Core}
+use Rattle.core.specs.declared.End.{End}
+
+-- a test means a statement
+abbrev Means : Bool → Type 0 → Type 0
+Means test P = (test ≡ true → P) × (test ≡ false → P → ⊥)
+
+clash : {b : Bool} → b ≡ true → b ≡ false → ⊥
+clash t f = let z : _≡_ {A = ℕ} 0 1 = cc in omega arith
+
+-- the first number of a list that applies, one at a time
+ends-first : (n : ℕ) → (firstOf [] ≡ n) × (n ≡ 0 → ⊥) → ⊥
+unfolding firstOf
+ends-first n (e, z) = z (sym e)
+
+-- the numbers found by a list of tests are those that apply
+Found : ℕ → List (ℕ × Bool) → List (ℕ × Type 0) → Type 0
+Found n tests numbers = ((firstOf tests ≡ n) × (n ≡ 0 → ⊥)) ↔ First n numbers
+
+none : (n : ℕ) → Found n [] []
+unfolding Found firstOf
+none n = (λ h. h .1 (sym (h .0)), λ z. absurd z)
+
+one : (n k : ℕ) (test : Bool) (P : Type 0) (tests : List (ℕ × Bool)) (numbers : List (ℕ × Type 0)) → (k ≡ 0 → ⊥) → Means test P
+    → Found n tests numbers → Found n ((k, test) ∷ tests) ((k, P) ∷ numbers)
+unfolding Found firstOf
+one n k true P tests numbers nonzero means rest = (λ h. inl (means .0 refl, sym (h .0)), from)
+  where
+    from : (P × (n ≡ k)) ⊎ ((P → ⊥) × First n numbers) → (k ≡ n) × (n ≡ 0 → ⊥)
+    from (inl h) = (sym (h .1), λ z. nonzero (sym (h .1) ∙ z))
+    from (inr h) = absurd (h .0 (means .0 refl))
+one n k false P tests numbers nonzero means rest = (λ h. inr (means .1 refl, rest .0 h), from)
+  where
+    from : (P × (n ≡ k)) ⊎ ((P → ⊥) × First n numbers) → (firstOf tests ≡ n) × (n ≡ 0 → ⊥)
+    from (inl h) = absurd (means .1 refl (h .0))
+    from (inr h) = rest .1 (h .1)
+
+-- what the tests mean
+length-means : (L : ℕ) → Means (wrongLength L) ((L ≡ 0) ⊎ (65536 < L))
+length-means L = by (eqb L 0) refl
+  where
+    by : (zero : Bool) → eqb L 0 ≡ zero → Means (wrongLength L) ((L ≡ 0) ⊎ (65536 < L))
+    by true h = rw h (λ _. inl (eqb-true L 0 h), λ e. absurd (clash refl e))
+    by false h = rw h (λ e. inr (ltb-true 65536 L e), λ e. no e)
+      where
+        no : ltb 65536 L ≡ false → (L ≡ 0) ⊎ (65536 < L) → ⊥
+        no e (inl z) = eqb-false L 0 h z
+        no e (inr l) = clash (lt-ltb 65536 L l) e
+
+stop-means : (s : Stop) → Means (not (isGoing s)) (s ≡ Going → ⊥)
+stop-means Going = (λ e. absurd (clash e refl), λ e n. n refl)
+stop-means Halted = (λ e g. let z : _≡_ {A = ℕ} 0 1 = cc in omega arith, λ e. absurd (clash refl e))
+stop-means Undefined = (λ e g. let z : _≡_ {A = ℕ} 0 1 = cc in omega arith, λ e. absurd (clash refl e))
+
+one-means : (due : ℕ) → Means (not (eqb due 1)) (due ≡ 1 → ⊥)
+one-means due = by (eqb due 1) refl
+  where
+    by : (one : Bool) → eqb due 1 ≡ one → Means (not (eqb due 1)) (due ≡ 1 → ⊥)
+    by true h = rw h (λ e. absurd (clash e refl), λ e n. n (eqb-true due 1 h))
+    by false h = rw h (λ e. eqb-false due 1 h, λ e. absurd (clash refl e))
+
+clock-means : (clock b : ℕ) → Means (clockFull clock b) (4294967295 < clock + b)
+clock-means clock b = (λ e. ltb-true 4294967295 (clock + b) e, λ e l. clash (lt-ltb 4294967295 (clock + b) l) e)
+
+range-means : (core : Core) → Means (not (dueInRange core)) ((core .due < 1) ⊎ (4 < core .due))
+range-means core = by (leb 1 (core .due)) refl (leb (core .due) 4) refl
+  where
+    by : (low : Bool) → leb 1 (core .due) ≡ low → (high : Bool) → leb (core .due) 4 ≡ high
+        → Means (not (dueInRange core)) ((core .due < 1) ⊎ (4 < core .due))
+    by false l high h = rw l (λ _. inl (leb-false 1 (core .due) l), λ e. absurd (clash refl e))
+    by true l false h = rw (l, h) (λ _. inr (leb-false (core .due) 4 h), λ e. absurd (clash refl e))
+    by true l true h = rw (l, h) (λ e. absurd (clash e refl), λ _. no)
+      where
+        no : (core .due < 1) ⊎ (4 < core .due) → ⊥
+        no (inl z) = let a = leb-true 1 (core .due) l in omega arith
+        no (inr z) = let a = leb-true (core .due) 4 h in omega arith
+
+-- a reply is a refusal exactly where the number is one
+Never : ℕ → Answer → Type 0
+Never n answer = answer ≡ refused n → ⊥
+
+refusal : (n number : ℕ) (core : Core) (memory : List ℕ) (taken : Reply) → Never n (taken .answer)
+    → (unless number core memory taken .answer ≡ refused n) ↔ ((number ≡ n) × (n ≡ 0 → ⊥))
+unfolding Never
+refusal n number core memory taken never = by (eqb number 0) refl
+  where
+    by : (b : Bool) → eqb number 0 ≡ b
+        → (unless number core memory taken .answer ≡ refused n) ↔ ((number ≡ n) × (n ≡ 0 → ⊥))
+    by true h = rw h (λ e. absurd (never e), λ e. absurd (e .1 (sym (e .0) ∙ eqb-true number 0 h)))
+    by false h = rw h (λ e. let same : number ≡ n = cc in (same, λ z. eqb-false number 0 h (same ∙ z)), λ e. ap refused (e .0))
+
+unchanged : (n number : ℕ) (core : Core) (memory : List ℕ) (taken : Reply) → Never n (taken .answer)
+    → unless number core memory taken .answer ≡ refused n
+    → (unless number core memory taken .core ≡ core) × (unless number core memory taken .memory ≡ memory)
+unfolding Never
+unchanged n number core memory taken never = by (eqb number 0) refl
+  where
+    by : (b : Bool) → eqb number 0 ≡ b → unless number core memory taken .answer ≡ refused n
+        → (unless number core memory taken .core ≡ core) × (unless number core memory taken .memory ≡ memory)
+    by true h = rw h (λ e. absurd (never e))
+    by false h = rw h (λ e. (refl, refl))
+
+load-never : (n : ℕ) (answer : listing.Answer) → Never n (loadAnswer answer)
+unfolding Never
+load-never n (listing.stored count) e = let z : _≡_ {A = ℕ} 0 1 = cc in omega arith
+load-never n (listing.refused number offset) e = let z : _≡_ {A = ℕ} 0 1 = cc in omega arith
+
+ran-never : (n used finished : ℕ) (end : End) → Never n (ran used finished end)
+unfolding Never
+ran-never n used finished end e = let z : _≡_ {A = ℕ} 0 1 = cc in omega arith
+
+viewed-never : (n : ℕ) (v : Visible) (due clock : ℕ) → Never n (viewed v due clock)
+unfolding Never
+viewed-never n v due clock e = let z : _≡_ {A = ℕ} 0 1 = cc in omega arith
+
+both : {A B C : Type 0} → A ↔ B → B ↔ C → A ↔ C
+both p q = (λ a. q .0 (p .0 a), λ c. p .1 (q .1 c))
+
+-- the tests of each call, in their order
+module _ (core : Core) (memory : List ℕ) (n : ℕ) where
+  load-found : Found n ((1, wrongLength (length memory)) ∷ (7, not (dueOne core)) ∷ []) (loadNumbers core memory)
+  load-found =
+      one n 1 _ _ _ _ (λ e. omega arith) (length-means (length memory))
+      (one n 7 _ _ _ _ (λ e. omega arith) (one-means (core .due)) (none n))
+
+  run-found : (b : ℕ)
+      → Found n
+      ((1, wrongLength (length memory))
+      ∷ (8, not (isGoing (core .stop)))
+      ∷ (7, not (dueInRange core))
+      ∷ (9, clockFull (core .clock .0) b)
+      ∷ [])
+      (runNumbers b core memory)
+  run-found b =
+      one n 1 _ _ _ _ (λ e. omega arith) (length-means (length memory))
+      (one n 8 _ _ _ _ (λ e. omega arith) (stop-means (core .stop))
+      (one n 7 _ _ _ _ (λ e. omega arith) (range-means core)
+      (one n 9 _ _ _ _ (λ e. omega arith) (clock-means (core .clock .0) b) (none n))))
+
+  step-found : Found n
+      ((1, wrongLength (length memory))
+      ∷ (8, not (isGoing (core .stop)))
+      ∷ (7, not (dueOne core))
+      ∷ (9, clockFull (core .clock .0) 4)
+      ∷ [])
+      (stepNumbers core memory)
+  step-found =
+      one n 1 _ _ _ _ (λ e. omega arith) (length-means (length memory))
+      (one n 8 _ _ _ _ (λ e. omega arith) (stop-means (core .stop))
+      (one n 7 _ _ _ _ (λ e. omega arith) (one-means (core .due))
+      (one n 9 _ _ _ _ (λ e. omega arith) (clock-means (core .clock .0) 4) (none n))))
+
+  view-found : Found n ((7, not (dueOne core)) ∷ []) (viewNumbers core)
+  view-found = one n 7 _ _ _ _ (λ e. omega arith) (one-means (core .due)) (none n)
+
+pub refused-exactly : RefusedExactly
+unfolding loadNumber runNumber stepNumber viewNumber load run step view reset Found
+refused-exactly core memory n b text = (
+  both (refusal n _ core memory _ (load-never n (listingAnswer text (length memory)))) (load-found core memory n),
+  both (refusal n _ core memory _ (ran-never n _ _ _)) (run-found core memory n b),
+  both (refusal n _ core memory _ (ran-never n _ _ _)) (step-found core memory n),
+  both (refusal n _ core memory _ (viewed-never n _ _ _)) (view-found core memory n),
+  λ e. let z : _≡_ {A = ℕ} 0 1 = cc in omega arith,
+)
+
+pub refused-unchanged : RefusedUnchanged
+unfolding load run step view
+refused-unchanged core memory n b text = (
+  unchanged n (loadNumber (length memory) (dueOne core)) core memory (loadedReply text core memory)
+      (load-never n (listingAnswer text (length memory))),
+  unchanged n (runNumber (length memory) (core .stop) (dueInRange core) (core .clock .0) b) core memory
+      (ranReply (cyclesOn b (starting core memory))) (ran-never n _ _ _),
+  unchanged n (stepNumber (length memory) (core .stop) (dueOne core) (core .clock .0)) core memory
+      (steppedReply (costAt memory (visibleOf core)) (instructed memory core) memory) (ran-never n _ _ _),
+  unchanged n (viewNumber (dueOne core)) core memory (viewedReply core memory) (viewed-never n _ _ _),
+)

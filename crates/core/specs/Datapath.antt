@@ -1,0 +1,165 @@
+-- Document 01, 'Datapath cycles': one cycle on a core and a memory M.
+use mathlib.Core.Bool.{Bool, true, false, cond}
+use mathlib.Core.List.{List}
+use Prim.Native.Nat.{ℕ, _+_}
+use lib.Dec.{eqb, leb}
+use Rattle.words.specs.Memory.{wordAt}
+use Rattle.words.specs.Arithmetic.{sum}
+use Rattle.isa.specs.Fields.{fieldT, fieldA, fieldB}
+use Rattle.isa.specs.Control.{secondRegister}
+use Rattle.isa.specs.Cost.{costOf}
+use Rattle.isa.specs.declared.Kind.{Kind}
+use Rattle.table.specs.Table.{kindOf}
+use Rattle.alu.specs.declared.Outcome.{Outcome}
+use Rattle.effects.specs.Cycles.{stopOf, calculated, writtenBack}
+use Rattle.effects.specs.declared.Effect.{Effect}
+use Rattle.effects.specs.declared.Stop.{Stop}
+use Rattle.effects.specs.declared.Stop as stop
+use Rattle.effects.specs.declared.Stop.the-variants.{Going, Halted}
+use Rattle.effects.specs.declared.Store.{Store}
+use Rattle.effects.specs.declared.Store.the-variants.{Nothing}
+use Rattle.core.specs.State.{Visible, visibleOf, register, reach, changed}
+use Rattle.core.specs.declared.Core.{Core}
+use Rattle.core.specs.declared.Turn.{Turn}
+
+-- 1. 'IR takes M(PC); PC+1.'
+abbrev pub fetched : List ℕ → Core → Core
+fetched M core =
+    record {
+      regs = core .regs;
+      pc = sum (core .pc) 1;
+      sp = core .sp;
+      flags = core .flags;
+      ir = wordAt M (core .pc);
+      ra = core .ra;
+      rb = core .rb;
+      ralu = core .ralu;
+      due = core .due;
+      stop = core .stop;
+      clock = core .clock;
+    }
+
+-- 2. 'RA takes Ra; RB takes Rt for ADDI, SUBI, LDL, LDH, PUSH, else Rb', by the fields of IR
+abbrev pub latched : Kind → Core → Core
+latched kind core =
+    record {
+      regs = core .regs;
+      pc = core .pc;
+      sp = core .sp;
+      flags = core .flags;
+      ir = core .ir;
+      ra = register (core .regs) (fieldA (core .ir));
+      rb = register (core .regs) (secondRegister kind (fieldT (core .ir)) (fieldB (core .ir)));
+      ralu = core .ralu;
+      due = core .due;
+      stop = core .stop;
+      clock = core .clock;
+    }
+
+abbrev pub stopped : Stop → Core → Core
+stopped s core =
+    record {
+      regs = core .regs;
+      pc = core .pc;
+      sp = core .sp;
+      flags = core .flags;
+      ir = core .ir;
+      ra = core .ra;
+      rb = core .rb;
+      ralu = core .ralu;
+      due = core .due;
+      stop = s;
+      clock = core .clock;
+    }
+
+-- 'HALT or undefined: stop .. Otherwise' the registers are latched
+abbrev pub second : Stop → Kind → Core → Core
+second Going kind core = latched kind core
+second Halted kind core = stopped Halted core
+second stop.the-variants.Undefined kind core = stopped stop.the-variants.Undefined core
+
+-- 3. RALU takes the value, 'Flags change here'
+abbrev pub withResult : Outcome → Core → Core
+withResult outcome core =
+    record {
+      regs = core .regs;
+      pc = core .pc;
+      sp = core .sp;
+      flags = outcome .flags;
+      ir = core .ir;
+      ra = core .ra;
+      rb = core .rb;
+      ralu = outcome .value;
+      due = core .due;
+      stop = core .stop;
+      clock = core .clock;
+    }
+
+abbrev pub third : Kind → Core → Core
+third kind core =
+    withResult (calculated kind (core .ir) (core .ra) (core .rb) (core .ralu) (reach (core .ir) (visibleOf core))) core
+
+-- 4. what comes of Rt, PC, SP, flags and stop state; the store is the caller's
+abbrev pub withVisible : Visible → Core → Core
+withVisible v core =
+    record {
+      regs = v .regs;
+      pc = v .pc;
+      sp = v .sp;
+      flags = v .flags;
+      ir = core .ir;
+      ra = core .ra;
+      rb = core .rb;
+      ralu = core .ralu;
+      due = core .due;
+      stop = v .stop;
+      clock = core .clock;
+    }
+
+abbrev pub withEffect : Effect → Core → Core
+withEffect effect core = withVisible (changed (core .ir) effect (visibleOf core)) core
+
+abbrev pub fourth : Kind → List ℕ → Core → Effect
+fourth kind M core = writtenBack kind (core .rb) (core .ralu) M (reach (core .ir) (visibleOf core))
+
+-- 'The last cycle of an instruction .. makes cycle 1 due'
+abbrev pub dueAfter : Bool → ℕ → ℕ
+dueAfter true due = 1
+dueAfter false due = due + 1
+
+-- 'Each cycle adds 1 to the clock'
+abbrev pub ticked : Bool → Core → Core
+ticked finished core =
+    record {
+      regs = core .regs;
+      pc = core .pc;
+      sp = core .sp;
+      flags = core .flags;
+      ir = core .ir;
+      ra = core .ra;
+      rb = core .rb;
+      ralu = core .ralu;
+      due = dueAfter finished (core .due);
+      stop = core .stop;
+      clock = record { 0 = core .clock .0 + 1 };
+    }
+
+abbrev pub turn : Bool → Core → Store → Turn
+turn finished core store = record { core = ticked finished core; finished = finished; store = store }
+
+-- the cycle due is the last of the instruction in IR if that costs, under the core's flags, no more cycles than the number due
+abbrev pub isLast : Kind → Core → Bool
+isLast kind core = leb (costOf kind (core .flags)) (core .due)
+
+-- one cycle of a core with cycle 2, 3 or 4 due, by the instruction in IR. With a number due that is none of 1 to 4, which run refuses
+-- with 7, nothing happens
+unfoldable pub laterCycle : Kind → List ℕ → Core → Turn
+laterCycle kind M core =
+    cond (eqb (core .due) 2) (turn (isLast kind core) (second (stopOf kind) kind core) Nothing)
+    (cond (eqb (core .due) 3) (turn (isLast kind core) (third kind core) Nothing)
+    (cond (eqb (core .due) 4) (turn (isLast kind core) (withEffect (fourth kind M core) core) (fourth kind M core .store))
+    (record { core = core; finished = false; store = Nothing })))
+
+-- one cycle of any core
+unfoldable pub cycled : List ℕ → Core → Turn
+cycled M core = cond (eqb (core .due) 1) (turn false (fetched M core) Nothing) (laterCycle (kindOf (core .ir)) M core)

@@ -1,0 +1,8 @@
+-- The core, its engines and the calls, in the order of document 01, and the theorems about them.
+pub mod State
+pub mod Datapath
+pub mod Instruction
+pub mod Numbers
+pub mod Calls
+pub mod Theorems
+pub mod TheoremsOfCalls

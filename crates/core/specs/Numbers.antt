@@ -1,0 +1,41 @@
+-- Document 01, 'Numbers from the input' and 'Numbers from the state': 1, 7, 8 and 9, and their order.
+use mathlib.Core.Bool.{Bool, true, false, cond, not}
+use mathlib.Core.List.{List, [], _∷_}
+use Prim.Native.Nat.{ℕ, _+_}
+use lib.Dec.{eqb, ltb}
+use Rattle.effects.specs.declared.Stop.{Stop}
+use Rattle.effects.specs.declared.Stop.the-variants.{Going, Halted, Undefined}
+
+-- '1: L is 0 or above 65,536'
+abbrev pub wrongLength : ℕ → Bool
+wrongLength L = cond (eqb L 0) true (ltb 65536 L)
+
+-- '8: stopped'
+abbrev pub isGoing : Stop → Bool
+isGoing Going = true
+isGoing Halted = false
+isGoing Undefined = false
+
+-- '9: clock plus b, or plus 4 for a step, exceeds 4,294,967,295'
+abbrev pub clockFull : ℕ → ℕ → Bool
+clockFull clock b = ltb 4294967295 (clock + b)
+
+-- the first number that applies; 0, which is no number, where none does and the call is taken
+unfoldable pub firstOf : List (ℕ × Bool) → ℕ
+firstOf [] = 0
+firstOf (x ∷ rest) = cond (x .1) (x .0) (firstOf rest)
+
+-- 'Order: load 1, 7, lines; run and step 1, 8, 7, 9; view only 7.' '7: cycle due is not 1 (load, view, step), or outside 1 to 4
+-- (run)': `inTurn` is whether it is one of those that the call asks for
+unfoldable pub loadNumber : ℕ → Bool → ℕ
+loadNumber L inTurn = firstOf ((1, wrongLength L) ∷ (7, not inTurn) ∷ [])
+
+unfoldable pub runNumber : ℕ → Stop → Bool → ℕ → ℕ → ℕ
+runNumber L stop inTurn clock b =
+    firstOf ((1, wrongLength L) ∷ (8, not (isGoing stop)) ∷ (7, not inTurn) ∷ (9, clockFull clock b) ∷ [])
+
+unfoldable pub stepNumber : ℕ → Stop → Bool → ℕ → ℕ
+stepNumber L stop inTurn clock = runNumber L stop inTurn clock 4
+
+unfoldable pub viewNumber : Bool → ℕ
+viewNumber inTurn = firstOf ((7, not inTurn) ∷ [])

@@ -1,0 +1,115 @@
+-- What the engines come to: the cycles of an instruction do what the table says; a core that no call made; the values of document 01's
+-- proof bench. Three statements, proved in proofs/OneInstruction.antt, proofs/Foreign.antt and proofs/Bench.antt.
+use mathlib.Core.Path.{_≡_}
+use mathlib.Core.Bool.{Bool, true, false}
+use mathlib.Core.List.{List}
+use Prim.Native.Nat.{ℕ, _+_, _≤_, _<_}
+use lib.ListN.{set, replicate}
+use Rattle.words.specs.Memory.{wordAt}
+use Rattle.words.specs.Arithmetic.{sum}
+use Rattle.isa.specs.Cost.{costOf}
+use Rattle.table.specs.Table.{kindOf}
+use Rattle.effects.specs.declared.Stop.the-variants.{Undefined}
+use Rattle.effects.specs.declared.Store.the-variants.{Nothing}
+use Rattle.core.specs.State.{visibleOf, register, freshVisible, between}
+use Rattle.core.specs.Datapath.{turn, cycled}
+use Rattle.core.specs.Instruction.{after, memoryAfter, costAt, instructed}
+use Rattle.core.specs.Numbers.{isGoing}
+use Rattle.core.specs.Calls.{Progress, cyclesOn, starting}
+use Rattle.core.specs.declared.Core.{Core}
+
+-- q is i cycles into the instruction that starts at p: nothing is stored, finished or stopped, registers and SP are as they were, the
+-- flags too up to cycle 3, and from cycle 1 on IR has the word and PC is one past it
+pub record Midway (i : ℕ) (p q : Progress) : Type 0 where
+  pub memory : q .memory ≡ p .memory
+  pub going : isGoing (q .core .stop) ≡ true
+  pub due : q .core .due ≡ i + 1
+  pub clock : q .core .clock .0 ≡ p .core .clock .0 + i
+  pub used : q .used ≡ p .used + i
+  pub finished : q .finished ≡ p .finished
+  pub regs : q .core .regs ≡ p .core .regs
+  pub sp : q .core .sp ≡ p .core .sp
+  pub flags : i ≤ 2 → q .core .flags ≡ p .core .flags
+  pub fetched : 1 ≤ i → (q .core .pc ≡ sum (p .core .pc) 1) × (q .core .ir ≡ wordAt (p .memory) (p .core .pc))
+
+-- q is past that instruction, with the memory, registers, PC, SP, flags and stop state that the table gives
+pub record Finished (p q : Progress) : Type 0 where
+  pub visible : visibleOf (q .core) ≡ after (p .memory) (visibleOf (p .core))
+  pub memory : q .memory ≡ memoryAfter (p .memory) (visibleOf (p .core))
+  pub due : q .core .due ≡ 1
+  pub clock : q .core .clock .0 ≡ p .core .clock .0 + costAt (p .memory) (visibleOf (p .core))
+  pub used : q .used ≡ p .used + costAt (p .memory) (visibleOf (p .core))
+  pub finished : q .finished ≡ p .finished + 1
+
+-- from every going core with cycle 1 due, as many cycles as the instruction at PC costs do what the table says, and no fewer
+-- (proved as `one-instruction`)
+abbrev pub OneInstruction : Type 0
+OneInstruction =
+    (p : Progress) → isGoing (p .core .stop) ≡ true → p .core .due ≡ 1
+    → ((i : ℕ) → i < costAt (p .memory) (visibleOf (p .core)) → Midway i p (cyclesOn i p))
+    × Finished p (cyclesOn (costAt (p .memory) (visibleOf (p .core))) p)
+
+-- 'A core that no call made may have, in cycle 3 or 4, an IR word whose listed cost under its flags is below the cycle due. That cycle
+-- finishes the instruction and changes nothing else but the clock.' (proved as `foreign-core`)
+abbrev pub ForeignCore : Type 0
+ForeignCore =
+    (memory : List ℕ) (core : Core) → 3 ≤ core .due → core .due ≤ 4 → costOf (kindOf (core .ir)) (core .flags) < core .due
+    → cycled memory core ≡ turn true core Nothing
+
+-- The bench: a core with p in R1, q in R2 and zero elsewhere, but for PC at the word and SP; the word is the last of a memory of zeros
+abbrev pub benchCore : ℕ → ℕ → ℕ → ℕ → Core
+benchCore p q pc sp =
+    between
+    (record {
+      regs = set (set (replicate 16 0) 1 p) 2 q;
+      pc = pc;
+      sp = sp;
+      flags = freshVisible .flags;
+      stop = freshVisible .stop;
+    })
+    0
+
+abbrev pub benchMemory : ℕ → ℕ → List ℕ
+benchMemory word pc = set (replicate (pc + 1) 0) pc word
+
+-- what a word does there, by four cycles of the datapath (fewer if the core stops) and by the instruction engine alike
+abbrev pub Does : ℕ → ℕ → ℕ → ℕ → ℕ → (Core → Type 0) → Type 0
+Does word p q pc sp Claim =
+    Claim (cyclesOn 4 (starting (benchCore p q pc sp) (benchMemory word pc)) .core)
+    × Claim (instructed (benchMemory word pc) (benchCore p q pc sp) .core)
+
+-- with the word at 0000 and SP 0000; and of a jump or call, by its place
+abbrev pub Gives : ℕ → ℕ → ℕ → (Core → Type 0) → Type 0
+Gives word p q Claim = Does word p q 0 0 Claim
+
+abbrev pub GoesTo : ℕ → ℕ → ℕ → Type 0
+GoesTo word pc target = Does word 0 0 pc 0 (λ core. core .pc ≡ target)
+
+-- a register holds a value
+abbrev pub Holds : ℕ → ℕ → Core → Type 0
+Holds i value core = register (core .regs) i ≡ value
+
+-- and NZCV are so
+abbrev pub HoldsWith : ℕ → ℕ → Bool → Bool → Bool → Bool → Core → Type 0
+HoldsWith i value n z c v core =
+    (register (core .regs) i ≡ value) × (core .flags ≡ record { n = n; z = z; c = c; v = v })
+
+-- 'Table to prove, together under a single theorem' (proved as `bench`)
+abbrev pub Bench : Type 0
+Bench =
+    -- ADD 1008, 1234 = 223C; SUB 1008, 1234 = FDD4, NZCV 1000 (R3 from R1 and R2)
+    Gives 0x0312 0x1008 0x1234 (Holds 3 0x223C)
+    × Gives 0x1312 0x1008 0x1234 (HoldsWith 3 0xFDD4 true false false false)
+    -- 1018 + k FF = 1117; FFFF + k FF = 00FE, NZCV 0010; 7FFF + k 01 = 8000, 1001; 8000 - k 01 = 7FFF, 0011 (R1)
+    × Gives 0x51FF 0x1018 0 (Holds 1 0x1117)
+    × Gives 0x51FF 0xFFFF 0 (HoldsWith 1 0x00FE false false true false)
+    × Gives 0x5101 0x7FFF 0 (HoldsWith 1 0x8000 true false false true)
+    × Gives 0x6101 0x8000 0 (HoldsWith 1 0x7FFF false false true true)
+    -- SR1 of 9754 = CBAA (R3 from R1)
+    × Gives 0xB313 0x9754 0 (Holds 3 0xCBAA)
+    -- D3FF at 0010 goes to 0010; F013 at 0114 to 0128
+    × GoesTo 0xD3FF 0x0010 0x0010
+    × GoesTo 0xF013 0x0114 0x0128
+    -- PUSH at SP 0000 leaves FFFF (of R1); B00B undefined
+    × Gives 0xB10A 0 0 (λ core. core .sp ≡ 0xFFFF)
+    × Gives 0xB00B 0 0 (λ core. core .stop ≡ Undefined)

@@ -1,0 +1,2 @@
+-- Proofs of the theorems of `effects`.
+pub mod Theorems

@@ -1,0 +1,79 @@
+-- The theorems of specs/Theorems.antt: the cycles by cases on the kind, the stack by the place that both name.
+use mathlib.Core.Path.{_≡_, refl, ap, _∙_}
+use mathlib.Core.Bool.{Bool, true, false}
+use mathlib.Core.List.{List}
+use Prim.Native.Nat.{ℕ, _<_}
+use native.Mathlib.Omega.{arith}
+use lib.ListN.{length}
+use lib.Seq.{getD-set-same}
+use Rattle.words.specs.Memory.{wordAt, stored}
+use Rattle.words.specs.Arithmetic.{sum, difference}
+use Rattle.isa.specs.Control.{taken}
+use Rattle.isa.specs.Cost.{jumpClass}
+use Rattle.isa.specs.declared.Kind.the-variants.{Undefined, Binary, Constant, Ld, St, Unary, Nop, Halt, Ldsp, Rts, Pop, Push, Jump, Call}
+use Rattle.effects.specs.Effect.{toRt, toPc, toSp}
+use Rattle.effects.specs.Table.{executed}
+use Rattle.effects.specs.Theorems.{AsCycles, CyclesAgree, Idle, PastTheLast, StackExactly}
+
+pub cycles-agree : CyclesAgree
+cycles-agree Undefined w t a b RALU register M x e = (λ z. absurd (let n : _≡_ {A = ℕ} 0 1 = cc in omega arith), refl)
+cycles-agree (Binary op) w t a b RALU register M x e = (refl, refl)
+cycles-agree (Constant op) w t a b RALU register M x e = (refl, rw e)
+cycles-agree Ld w t a b RALU register M x e = (refl, refl)
+cycles-agree St w t a b RALU register M x e = (refl, refl)
+cycles-agree (Unary op) w t a b RALU register M x e = (refl, refl)
+cycles-agree Nop w t a b RALU register M x e = (refl, refl, refl)
+cycles-agree Halt w t a b RALU register M x e = (λ z. absurd (let n : _≡_ {A = ℕ} 0 1 = cc in omega arith), refl)
+cycles-agree Ldsp w t a b RALU register M x e = (refl, refl)
+cycles-agree Rts w t a b RALU register M x e = (refl, refl)
+cycles-agree Pop w t a b RALU register M x e = (refl, refl)
+cycles-agree Push w t a b RALU register M x e = (refl, rw e)
+cycles-agree (Jump condition target) w t a b RALU register M x e = by-taken (taken condition (x .flags)) refl
+  where
+    by-taken : (goes : Bool) → taken condition (x .flags) ≡ goes
+        → AsCycles (jumpClass (taken condition (x .flags))) (Jump condition target) w (register a) (register b) RALU M x
+        (executed (Jump condition target) w (register a) (register b) M x)
+    by-taken true h = rw h (refl, rw h)
+    by-taken false h = rw h (refl, refl, refl)
+cycles-agree (Call target) w t a b RALU register M x e = (refl, refl)
+
+pub past-the-last : PastTheLast
+past-the-last Undefined w RA RB RALU M x = (refl, refl)
+past-the-last (Binary op) w RA RB RALU M x = tt
+past-the-last (Constant op) w RA RB RALU M x = tt
+past-the-last Ld w RA RB RALU M x = tt
+past-the-last St w RA RB RALU M x = tt
+past-the-last (Unary op) w RA RB RALU M x = tt
+past-the-last Nop w RA RB RALU M x = refl
+past-the-last Halt w RA RB RALU M x = (refl, refl)
+past-the-last Ldsp w RA RB RALU M x = tt
+past-the-last Rts w RA RB RALU M x = tt
+past-the-last Pop w RA RB RALU M x = tt
+past-the-last Push w RA RB RALU M x = tt
+past-the-last (Jump condition target) w RA RB RALU M x = by (taken condition (x .flags)) refl
+  where
+    by : (goes : Bool) → taken condition (x .flags) ≡ goes
+        → Idle (jumpClass (taken condition (x .flags))) (Jump condition target) w RA RB RALU M x
+    by true h = rw h tt
+    by false h = rw h (rw h)
+past-the-last (Call target) w RA RB RALU M x = tt
+
+-- one below, then one above
+back : (sp : ℕ) → sp < 65536 → sum (difference sp 1) 1 ≡ sp
+back sp h = omega arith
+
+-- the word that was stacked, one above the SP that was left
+found : (M : List ℕ) (sp v : ℕ) → sp < length M → sp < 65536 → wordAt (stored M sp v) (sum (difference sp 1) 1) ≡ v
+found M sp v l h = ap (wordAt (stored M sp v)) (back sp h) ∙ getD-set-same M sp v 0 l
+
+pub stack-exactly : StackExactly
+stack-exactly w ra rb u ra′ rb′ M x y target l h = (
+  λ e. let place = ap (λ (sp : ℕ). sum sp 1) e in
+      let sp = place ∙ back (x .sp) h in
+      let word = ap (wordAt (stored M (x .sp) (x .rt))) place ∙ found M (x .sp) (x .rt) l h in
+      λ j. toRt (word j) (toSp (sp j) y),
+  λ e. let place = ap (λ (sp : ℕ). sum sp 1) e in
+      let sp = place ∙ back (x .sp) h in
+      let word = ap (wordAt (stored M (x .sp) (x .pc))) place ∙ found M (x .sp) (x .pc) l h in
+      λ j. toPc (word j) (toSp (sp j) y),
+)

@@ -1,0 +1,64 @@
+-- The cycles of an instruction, taken together, do what the instruction table says; cycles past its last do nothing; and what is
+-- stacked is found again. Three statements, proved in proofs/Theorems.antt.
+use mathlib.Core.Path.{_≡_}
+use mathlib.Core.List.{List}
+use Prim.Native.Nat.{ℕ, _<_}
+use lib.ListN.{length}
+use Rattle.isa.specs.Control.{secondRegister}
+use Rattle.isa.specs.Cost.{classOf}
+use Rattle.isa.specs.declared.Class.{Class}
+use Rattle.isa.specs.declared.Class.the-variants.{Stop, Short, Full}
+use Rattle.isa.specs.declared.Kind.{Kind}
+use Rattle.isa.specs.declared.Kind.the-variants.{Rts, Pop, Push, Call}
+use Rattle.isa.specs.declared.Target.{Target}
+use Rattle.isa.specs.declared.Flags.{Flags}
+use Rattle.alu.specs.Flags.{silent}
+use Rattle.effects.specs.Effect.{toRt, toPc, toSp, stopping, applied}
+use Rattle.effects.specs.Table.{executed}
+use Rattle.effects.specs.Cycles.{stopOf, calculated, writtenBack}
+use Rattle.effects.specs.declared.Effect.{Effect}
+use Rattle.effects.specs.declared.Stop.the-variants.{Going}
+
+abbrev pub withFlags : Flags → Effect → Effect
+withFlags flags x = record { rt = x .rt; pc = x .pc; sp = x .sp; flags = flags; stop = x .stop; store = x .store }
+
+-- How the cycles of an instruction do `whole`, which is what the table says, by its class. Of 2 cycles: it stops in cycle 2, and that is
+-- the whole. Of 3: cycle 2 does not stop, cycle 3 leaves the flags, and nothing is the whole. Of 4: cycle 2 does not stop, and what
+-- cycle 4 writes back, from the value and the flags of cycle 3, is the whole
+abbrev pub AsCycles : Class → Kind → ℕ → ℕ → ℕ → ℕ → List ℕ → Effect → Effect → Type 0
+AsCycles Stop k w RA RB RALU M x whole = (stopOf k ≡ Going → ⊥) × (whole ≡ stopping (stopOf k) x)
+AsCycles Short k w RA RB RALU M x whole = (stopOf k ≡ Going) × (calculated k w RA RB RALU x .flags ≡ x .flags) × (whole ≡ x)
+AsCycles Full k w RA RB RALU M x whole =
+    (stopOf k ≡ Going)
+    × (whole ≡ writtenBack k RB (calculated k w RA RB RALU x .value) M (withFlags (calculated k w RA RB RALU x .flags) x))
+
+-- for every kind and word, whatever the registers hold: RA and RB are latched as cycle 2 does, t and b are the fields (proved as
+-- `cycles-agree`)
+abbrev pub CyclesAgree : Type 0
+CyclesAgree =
+    (k : Kind) (w t a b RALU : ℕ) (register : ℕ → ℕ) (M : List ℕ) (x : Effect) → x .rt ≡ register t
+    → AsCycles (classOf k (x .flags)) k w (register a) (register (secondRegister k t b)) RALU M x
+    (executed k w (register a) (register b) M x)
+
+-- What cycles past the last of an instruction do, which only a core that no call made comes to: cycle 3 leaves RALU and the flags where
+-- the cost is 2, and cycle 4 writes nothing back where it is 2 or 3
+abbrev pub Idle : Class → Kind → ℕ → ℕ → ℕ → ℕ → List ℕ → Effect → Type 0
+Idle Stop k w RA RB RALU M x = (calculated k w RA RB RALU x ≡ silent RALU (x .flags)) × (writtenBack k RB RALU M x ≡ x)
+Idle Short k w RA RB RALU M x = writtenBack k RB RALU M x ≡ x
+Idle Full k w RA RB RALU M x = Unit
+
+-- whatever the hidden registers hold (proved as `past-the-last`)
+abbrev pub PastTheLast : Type 0
+PastTheLast = (k : Kind) (w RA RB RALU : ℕ) (M : List ℕ) (x : Effect) → Idle (classOf k (x .flags)) k w RA RB RALU M x
+
+-- 'PUSH: M(SP) takes Rt, then SP-1' and 'POP: Rt likewise': a POP in the memory and with the SP that a PUSH left takes the word that was
+-- pushed; 'A call stores PC at M(SP), then SP-1' and 'RTS: PC takes M(SP+1)': an RTS after a call goes to the instruction past the
+-- call. SP is then as before. The words w and u and the other registers are free. Where SP is at or past L, the word is lost (proved
+-- as `stack-exactly`)
+abbrev pub StackExactly : Type 0
+StackExactly =
+    (w ra rb u ra′ rb′ : ℕ) (M : List ℕ) (x y : Effect) (target : Target) → x .sp < length M → x .sp < 65536
+    → (y .sp ≡ executed Push w ra rb M x .sp
+    → executed Pop u ra′ rb′ (applied (executed Push w ra rb M x .store) M) y ≡ toRt (x .rt) (toSp (x .sp) y))
+    × (y .sp ≡ executed (Call target) w ra rb M x .sp
+    → executed Rts u ra′ rb′ (applied (executed (Call target) w ra rb M x .store) M) y ≡ toPc (x .pc) (toSp (x .sp) y))

@@ -1,0 +1,5 @@
+-- Proofs of `lists`.
+pub mod Runs
+pub mod Relation
+pub mod Calls
+pub mod Theorem

@@ -1,0 +1,150 @@
+-- Document 01, 'Calls and the instruction machine': the instruction machine, with a state and calls of its own.
+use mathlib.Core.Bool.{Bool, true, false, cond}
+use mathlib.Core.List.{List, [], _∷_}
+use Prim.Native.Nat.{ℕ, zero, suc, _+_, _-_}
+use lib.Dec.{eqb, leb}
+use lib.ListN.{length}
+use Rattle.isa.specs.Cost.{costOf}
+use Rattle.isa.specs.declared.Flags.{Flags}
+use Rattle.table.specs.Table.{kindOf}
+use Rattle.listing.specs.Listing.{listingAnswer, listingMemory}
+use Rattle.effects.specs.declared.Stop.{Stop}
+use Rattle.effects.specs.declared.Stop.the-variants.{Going, Halted, Undefined}
+use Rattle.core.specs.State.{Visible, freshVisible}
+use Rattle.core.specs.Instruction.{wordDue, after, memoryAfter, costAt}
+use Rattle.core.specs.Numbers.{isGoing, loadNumber, runNumber, stepNumber, viewNumber}
+use Rattle.core.specs.Calls.{Answer, done, ran, viewed, refused, endOf, loadAnswer}
+
+-- 'R0 to R15, PC, SP, flags, .. stop state' (`visible`), 'memory, .. clock T, and s, cycles spent (0 to 3)'
+pub record Machine : Type 0 where
+  pub visible : Visible
+  pub memory : List ℕ
+  pub clock : ℕ
+  pub spent : ℕ
+
+-- 'It starts fresh on the same memory'
+abbrev pub freshMachine : List ℕ → Machine
+freshMachine memory = record { visible = freshVisible; memory = memory; clock = 0; spent = 0 }
+
+-- a finished instruction in the log: its word, and the flags under which it was executed
+pub record Logged : Type 0 where
+  pub word : ℕ
+  pub flags : Flags
+
+-- the cycles of the instructions of a log, each 2, 3 or 4 by the table of costs
+unfoldable pub cyclesOf : List Logged → ℕ
+cyclesOf [] = 0
+cyclesOf (x ∷ rest) = costOf (kindOf (x .word)) (x .flags) + cyclesOf rest
+
+-- what a call gives back; the log has the instructions that it executed, the last one first
+pub record Reply : Type 0 where
+  pub answer : Answer
+  pub machine : Machine
+  pub log : List Logged
+
+abbrev pub unless : ℕ → Machine → Reply → Reply
+unless number m taken = cond (eqb number 0) taken (record { answer = refused number; machine = m; log = [] })
+
+-- 'for 7 and the end letter, cycle 1 is due when s is 0, otherwise one of 2 to 4'
+abbrev pub noneSpent : Machine → Bool
+noneSpent m = eqb (m .spent) 0
+
+-- 'Reset: all zero but memory, going.'
+unfoldable pub reset : Machine → Reply
+reset m = record { answer = done; machine = freshMachine (m .memory); log = [] }
+
+-- 'Load and view: as above.'
+unfoldable pub load : List ℕ → Machine → Reply
+load text m =
+    unless (loadNumber (length (m .memory)) (noneSpent m)) m
+    (record {
+      answer = loadAnswer (listingAnswer text (length (m .memory)));
+      machine = record { visible = m .visible; memory = listingMemory text (m .memory); clock = m .clock; spent = m .spent };
+      log = [];
+    })
+
+unfoldable pub view : Machine → Reply
+view m =
+    unless (viewNumber (noneSpent m)) m
+    (record { answer = viewed (m .visible) (m .spent + 1) (m .clock); machine = m; log = [] })
+
+-- the loop of a run: t is what is left of s+b
+pub record Loop : Type 0 where
+  pub visible : Visible
+  pub memory : List ℕ
+  pub t : ℕ
+  pub log : List Logged
+
+-- 'while going and the cost c of the instruction at PC is at most t'
+abbrev pub goesOn : Loop → Bool
+goesOn x = cond (isGoing (x .visible .stop)) (leb (costAt (x .memory) (x .visible)) (x .t)) false
+
+-- 'execute it and take c from t'
+abbrev pub turned : Loop → Loop
+turned x =
+    record {
+      visible = after (x .memory) (x .visible);
+      memory = memoryAfter (x .memory) (x .visible);
+      t = x .t - costAt (x .memory) (x .visible);
+      log = record { word = wordDue (x .memory) (x .visible); flags = x .visible .flags } ∷ x .log;
+    }
+
+-- an instruction takes a cycle at least, so that t turns are enough
+unfoldable pub looped : ℕ → Loop → Loop
+looped zero x = x
+looped (suc turns) x = cond (goesOn x) (looped turns (turned x)) x
+
+abbrev pub loopOf : ℕ → Machine → Loop
+loopOf b m =
+    looped (m .spent + b) (record { visible = m .visible; memory = m .memory; t = m .spent + b; log = [] })
+
+-- 'If stopped, used is b-t and s is 0; else used is b and s is t.'
+abbrev pub used : Stop → ℕ → ℕ → ℕ
+used Going b t = b
+used Halted b t = b - t
+used Undefined b t = b - t
+
+abbrev pub spentAfter : Stop → ℕ → ℕ
+spentAfter Going t = t
+spentAfter Halted t = 0
+spentAfter Undefined t = 0
+
+-- 'T grows by used.' 'Each one executed is one finished, HALT and undefined too.'
+abbrev pub ranReply : ℕ → ℕ → Loop → Reply
+ranReply b clock x =
+    record {
+      answer =
+          ran (used (x .visible .stop) b (x .t)) (length (x .log))
+          (endOf (x .visible .stop) (eqb (spentAfter (x .visible .stop) (x .t)) 0));
+      machine =
+          record {
+            visible = x .visible;
+            memory = x .memory;
+            clock = clock + used (x .visible .stop) b (x .t);
+            spent = spentAfter (x .visible .stop) (x .t);
+          };
+      log = x .log;
+    }
+
+-- 'Run: let t = s+b'
+unfoldable pub run : ℕ → Machine → Reply
+run b m =
+    unless (runNumber (length (m .memory)) (m .visible .stop) true (m .clock) b) m (ranReply b (m .clock) (loopOf b m))
+
+-- 'Step: one instruction, T grows by its cost.'
+abbrev pub stepped : Machine → Reply
+stepped m =
+    record {
+      answer = ran (costAt (m .memory) (m .visible)) 1 (endOf (after (m .memory) (m .visible) .stop) true);
+      machine =
+          record {
+            visible = after (m .memory) (m .visible);
+            memory = memoryAfter (m .memory) (m .visible);
+            clock = m .clock + costAt (m .memory) (m .visible);
+            spent = 0;
+          };
+      log = record { word = wordDue (m .memory) (m .visible); flags = m .visible .flags } ∷ [];
+    }
+
+unfoldable pub step : Machine → Reply
+step m = unless (stepNumber (length (m .memory)) (m .visible .stop) (noneSpent m) (m .clock)) m (stepped m)
