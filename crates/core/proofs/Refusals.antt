@@ -11,10 +11,11 @@ use lib.Dec.{eqb, ltb, leb}
 use lib.ListN.{length}
 use Rattle.listing.specs.Answers as listing
 use Rattle.listing.specs.Listing.{listingAnswer}
+use Rattle.listing.proofs.Theorems.{refused-unchanged as listing-unchanged}
 use Rattle.effects.specs.declared.Stop.{Stop}
 use Rattle.effects.specs.declared.Stop.the-variants.{Going, Halted, Undefined}
 use Rattle.core.specs.Numbers.{wrongLength, isGoing, clockFull, firstOf, loadNumber, runNumber, stepNumber, viewNumber}
-use Rattle.core.specs.Calls.{Answer, stored, ran, viewed, refused, dueOne, dueInRange, Reply, unless, loadAnswer, loadedReply, viewedReply, ranReply, steppedReply, cyclesOn, starting, reset, load, view, run, step}
+use Rattle.core.specs.Calls.{Answer, refusedAt, stored, ran, viewed, refused, dueOne, dueInRange, Reply, unless, loadAnswer, loadedReply, viewedReply, ranReply, steppedReply, cyclesOn, starting, reset, load, view, run, step}
 use Rattle.core.specs.TheoremsOfCalls.{First, loadNumbers, runNumbers, stepNumbers, viewNumbers, RefusedExactly, RefusedUnchanged}
 use Rattle.core.specs.State.{Visible, visibleOf}
 use Rattle.core.specs.Instruction.{costAt, instructed}
@@ -183,11 +184,34 @@ refused-exactly core memory n b text = (
   λ e. let z : _≡_ {A = ℕ} 0 1 = cc in omega arith,
 )
 
+-- a load whose lines are refused
+lines-refused : (n offset : ℕ) (answer : listing.Answer) → loadAnswer answer ≡ refusedAt n offset → answer ≡ listing.refused n offset
+lines-refused n offset (listing.stored count) e = absurd (let z : _≡_ {A = ℕ} 0 1 = cc in omega arith)
+lines-refused n offset (listing.refused number start) e =
+    let same : number ≡ n = cc in
+    let place : start ≡ offset = cc in
+    λ j. listing.refused (same j) (place j)
+
+load-unchanged : (core : Core) (memory : List ℕ) (n offset : ℕ) (text : List ℕ) (number : ℕ)
+    → unless number core memory (loadedReply text core memory) .answer ≡ refusedAt n offset
+    → (unless number core memory (loadedReply text core memory) .core ≡ core)
+    × (unless number core memory (loadedReply text core memory) .memory ≡ memory)
+load-unchanged core memory n offset text number = by (eqb number 0) refl
+  where
+    by : (b : Bool) → eqb number 0 ≡ b
+        → unless number core memory (loadedReply text core memory) .answer ≡ refusedAt n offset
+        → (unless number core memory (loadedReply text core memory) .core ≡ core)
+        × (unless number core memory (loadedReply text core memory) .memory ≡ memory)
+    by true h =
+        rw h (λ e. (refl, listing-unchanged text memory n offset (lines-refused n offset (listingAnswer text (length memory)) e)))
+    by false h = rw h (λ e. absurd (let z : _≡_ {A = ℕ} 0 1 = cc in omega arith))
+
 pub refused-unchanged : RefusedUnchanged
 unfolding load run step view
-refused-unchanged core memory n b text = (
+refused-unchanged core memory n offset b text = (
   unchanged n (loadNumber (length memory) (dueOne core)) core memory (loadedReply text core memory)
       (load-never n (listingAnswer text (length memory))),
+  load-unchanged core memory n offset text (loadNumber (length memory) (dueOne core)),
   unchanged n (runNumber (length memory) (core .stop) (dueInRange core) (core .clock .0) b) core memory
       (ranReply (cyclesOn b (starting core memory))) (ran-never n _ _ _),
   unchanged n (stepNumber (length memory) (core .stop) (dueOne core) (core .clock .0)) core memory

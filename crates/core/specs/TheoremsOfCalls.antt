@@ -6,7 +6,7 @@ use mathlib.Core.List.{List, [], _∷_}
 use Prim.Native.Nat.{ℕ, _+_, _≤_, _<_}
 use lib.ListN.{length}
 use Rattle.effects.specs.declared.Stop.the-variants.{Going, Halted, Undefined}
-use Rattle.core.specs.Calls.{ran, refused, Reply, reset, load, view, run, step}
+use Rattle.core.specs.Calls.{Answer, ran, refused, refusedAt, Reply, reset, load, view, run, step}
 use Rattle.core.specs.declared.Core.{Core}
 use Rattle.core.specs.declared.End.{End}
 use Rattle.core.specs.declared.End.the-variants.{H, U, B, M}
@@ -55,17 +55,18 @@ RefusedExactly =
     × ((view core memory .answer ≡ refused n) ↔ First n (viewNumbers core))
     × (reset core memory .answer ≡ refused n → ⊥)
 
--- 'A refusal .. changes nothing' (proved as `refused-unchanged`)
-abbrev pub Unchanged : Core → List ℕ → ℕ → Reply → Type 0
-Unchanged core memory n reply = reply .answer ≡ refused n → (reply .core ≡ core) × (reply .memory ≡ memory)
+-- 'A refusal returns its number (and offset) and changes nothing' (proved as `refused-unchanged`)
+abbrev pub UnchangedAt : Core → List ℕ → Answer → Reply → Type 0
+UnchangedAt core memory refusal reply = reply .answer ≡ refusal → (reply .core ≡ core) × (reply .memory ≡ memory)
 
 abbrev pub RefusedUnchanged : Type 0
 RefusedUnchanged =
-    (core : Core) (memory : List ℕ) (n b : ℕ) (text : List ℕ)
-    → Unchanged core memory n (load text core memory)
-    × Unchanged core memory n (run b core memory)
-    × Unchanged core memory n (step core memory)
-    × Unchanged core memory n (view core memory)
+    (core : Core) (memory : List ℕ) (n offset b : ℕ) (text : List ℕ)
+    → UnchangedAt core memory (refused n) (load text core memory)
+    × UnchangedAt core memory (refusedAt n offset) (load text core memory)
+    × UnchangedAt core memory (refused n) (run b core memory)
+    × UnchangedAt core memory (refused n) (step core memory)
+    × UnchangedAt core memory (refused n) (view core memory)
 
 -- 'the end: H halted, U undefined, B cycle 1 due, M otherwise', of the core that is handed back
 abbrev pub Letter : End → Core → Type 0
