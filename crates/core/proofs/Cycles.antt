@@ -1,6 +1,6 @@
 -- Laws of a run's cycles: which cycle is done, and how they follow one another.
 use mathlib.Core.Path.{_≡_, refl, sym, ap, _∙_}
-use mathlib.Core.Bool.{Bool, true, false}
+use mathlib.Core.Bool.{Bool, true, false, cond}
 use mathlib.Core.List.{List}
 use Prim.Native.Nat.{ℕ, zero, suc, _+_, _≤_}
 use native.Mathlib.Omega.{arith}
@@ -16,7 +16,7 @@ use Rattle.table.specs.Table.{kindOf}
 use Rattle.effects.specs.Cycles.{stopOf}
 use Rattle.effects.specs.declared.Stop as stop
 use Rattle.effects.specs.declared.Store.the-variants.{Nothing}
-use Rattle.core.specs.Datapath.{fetched, second, third, fourth, withEffect, turn, isLast, laterCycle, cycled}
+use Rattle.core.specs.Datapath.{fetched, second, third, fourthEffect, withEffect, turn, isLast, laterCycle, cycled}
 use Rattle.core.specs.State.{Visible}
 use Rattle.core.specs.Instruction.{wordDue, costAt}
 use Rattle.core.specs.Numbers.{isGoing}
@@ -43,7 +43,7 @@ module _ (M : List ℕ) (core : Core) where
   third-cycle kind e = rw e
 
   pub fourth-cycle : (kind : Kind) → core .due ≡ 4
-      → laterCycle kind M core ≡ turn (isLast kind core) (withEffect (fourth kind M core) core) (fourth kind M core .store)
+      → laterCycle kind M core ≡ turn (isLast kind core) (withEffect (fourthEffect kind M core) core) (fourthEffect kind M core .store)
   unfolding laterCycle
   fourth-cycle kind e = rw e
 
@@ -61,7 +61,7 @@ second-keeps stop.the-variants.Undefined k c = (refl, refl)
 -- a going core does one cycle more, a stopped one none
 pub one-more : (n : ℕ) (p : Progress) → isGoing (p .core .stop) ≡ true → cyclesOn (suc n) p ≡ cyclesOn n (advanced p)
 unfolding cyclesOn
-one-more n p e = rw e
+one-more n p e = ap (λ (g : Bool). cond g (cyclesOn n (advanced p)) p) e
 
 pub none-more : (n : ℕ) (p : Progress) → isGoing (p .core .stop) ≡ false → cyclesOn n p ≡ p
 unfolding cyclesOn
@@ -105,6 +105,12 @@ cycles-counted (suc n) u f p = by (isGoing (p .core .stop)) refl (cycles-counted
     by true e ih =
         one-more n (counted u f p) e ∙ ap (cyclesOn n) (advanced-counted u f p) ∙ ih ∙ ap (counted u f) (sym (one-more n p e))
     by false e ih = none-more (suc n) (counted u f p) e ∙ ap (counted u f) (sym (none-more (suc n) p e))
+
+-- the one stop state that is none
+pub only-going : (s : stop.Stop) → isGoing s ≡ true → s ≡ stop.the-variants.Going
+only-going stop.the-variants.Going e = refl
+only-going stop.the-variants.Halted e = cc
+only-going stop.the-variants.Undefined e = cc
 
 -- an instruction costs 2 to 4 cycles
 two-to-four : (class : Class) → (2 ≤ countOf class) × (countOf class ≤ 4)

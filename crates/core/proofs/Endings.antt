@@ -1,25 +1,27 @@
--- The theorem `Ends` of specs/TheoremsOfCalls.antt: the letters by the stop state and the cycle due, the budget by the cycles that were done.
-use mathlib.Core.Path.{_≡_, refl, sym, ap, _∙_}
+-- How the cycles of a run end: the letters by the stop state and the cycle due, the budget and the clock by the cycles that were done.
+use mathlib.Core.Path.{_≡_, refl, ap, _∙_}
 use mathlib.Core.Logic.{_↔_}
 use mathlib.Core.Bool.{Bool, true, false}
 use mathlib.Core.List.{List}
 use Prim.Native.Nat.{ℕ, zero, suc, _+_, _≤_}
-use native.Mathlib.Nat.{zero-add}
 use native.Mathlib.Omega.{arith}
-use borrow.Author.Tests.{eqb-true, eqb-false}
-use lib.Dec.{eqb}
-use lib.ListN.{length}
+use borrow.Author.Tests.{eqb-true, eqb-false, le-leb}
+use lib.Dec.{eqb, lit≤}
+use Rattle.isa.specs.Cost.{costOf}
+use Rattle.table.specs.Table.{kindOf}
+use Rattle.effects.specs.Cycles.{stopOf}
+use Rattle.effects.specs.declared.Store.{Store}
+use Rattle.effects.specs.declared.Store.the-variants.{Nothing}
 use Rattle.effects.specs.declared.Stop.{Stop}
 use Rattle.effects.specs.declared.Stop.the-variants.{Going, Halted, Undefined}
-use Rattle.core.specs.State.{visibleOf}
-use Rattle.core.specs.Instruction.{costAt, instructed}
-use Rattle.core.specs.Numbers.{isGoing, runNumber, stepNumber}
-use Rattle.core.specs.Calls.{ran, Progress, advanced, cyclesOn, starting, endOf, dueOne, dueInRange, Reply, unless, ranReply, steppedReply, run, step}
-use Rattle.core.specs.TheoremsOfCalls.{Letter, Ends}
+use Rattle.core.specs.Datapath.{fetched, second, third, dueAfter, turn, isLast, cycled}
+use Rattle.core.specs.Numbers.{isGoing}
+use Rattle.core.specs.Calls.{Progress, advanced, cyclesOn, endOf, dueOne}
+use Rattle.core.specs.TheoremsOfCalls.{Letter}
 use Rattle.core.specs.declared.Core.{Core}
 use Rattle.core.specs.declared.End.{End}
 use Rattle.core.specs.declared.End.the-variants.{H, U, B, M}
-use Rattle.core.proofs.Cycles.{no-cycle, one-more, none-more}
+use Rattle.core.proofs.Cycles.{first-cycle, later, second-cycle, third-cycle, fourth-cycle, second-keeps, no-cycle, one-more, none-more, cost-of-range}
 
 neither : {P Q : Type 0} → (P → ⊥) → (Q → ⊥) → P ↔ Q
 neither p q = (λ x. absurd (p x), λ y. absurd (q y))
@@ -75,11 +77,11 @@ letters Undefined due one e = (
   neither (other-end U M refl) (λ z. other-stop Undefined Going refl (z .0)),
 )
 
-letter : (core : Core) → Letter (endOf (core .stop) (dueOne core)) core
+pub letter : (core : Core) → Letter (endOf (core .stop) (dueOne core)) core
 letter core = letters (core .stop) (core .due) (dueOne core) refl
 
 -- the cycles done are the budget, or fewer and the core is stopped
-budget : (n : ℕ) (p : Progress)
+pub budget : (n : ℕ) (p : Progress)
     → (cyclesOn n p .used ≤ p .used + n) × (isGoing (cyclesOn n p .core .stop) ≡ true → cyclesOn n p .used ≡ p .used + n)
 unfolding advanced
 budget zero p = rw (no-cycle p) (omega arith, λ _. omega arith)
@@ -94,33 +96,55 @@ budget (suc n) p = by (isGoing (p .core .stop)) refl (budget n (advanced p))
     by false g ih =
         rw (none-more (suc n) p g) (omega arith, λ e. absurd (let z : _≡_ {A = ℕ} 0 1 = cc in omega arith))
 
--- a reply with a run's answer is no refusal
-taken-by : (number : ℕ) (core : Core) (memory : List ℕ) (taken : Reply) (used finished : ℕ) (end : End)
-    → unless number core memory taken .answer ≡ ran used finished end → unless number core memory taken ≡ taken
-taken-by number core memory taken used finished end = by (eqb number 0) refl
-  where
-    by : (b : Bool) → eqb number 0 ≡ b
-        → unless number core memory taken .answer ≡ ran used finished end → unless number core memory taken ≡ taken
-    by true h = rw h (λ _. refl)
-    by false h = rw h (λ e. absurd (let z : _≡_ {A = ℕ} 0 1 = cc in omega arith))
+-- every cycle moves the clock by 1, and leaves one of 1 to 4 due
+due-after-range : (finished : Bool) (due : ℕ) → due ≤ 3 → (1 ≤ dueAfter finished due) × (dueAfter finished due ≤ 4)
+due-after-range true due h = (lit≤ tt, lit≤ tt)
+due-after-range false due h = (omega arith, omega arith)
 
-pub ends : Ends
-unfolding run step instructed
-ends core memory b used finished end =
-    let p = starting core memory in
-    let q = cyclesOn b p in (
-      λ e. let reply = taken-by (runNumber (length memory) (core .stop) (dueInRange core) (core .clock .0) b) core memory (ranReply q) used finished end e in
-          let answer = sym (ap (λ (r : Reply). r .answer) reply) ∙ e in
-          let last : end ≡ endOf (q .core .stop) (dueOne (q .core)) = cc in
-          let count : q .used ≡ used = cc in
-          let most = budget b p in (
-            rw reply (rw last (letter (q .core))),
-            omega (arith, most .0),
-            rw reply (λ g. sym count ∙ most .1 (ap isGoing g) ∙ zero-add b),
-          ),
-      λ e. let turn = instructed memory core in
-          let reply = taken-by (stepNumber (length memory) (core .stop) (dueOne core) (core .clock .0)) core memory (steppedReply (costAt memory (visibleOf core)) turn memory) used finished end e in
-          let answer = sym (ap (λ (r : Reply). r .answer) reply) ∙ e in
-          let last : end ≡ endOf (turn .core .stop) (dueOne (turn .core)) = cc in
-          rw reply (rw last (letter (turn .core))),
-    )
+record Ticks (before after : Core) : Type 0 where
+  clock : after .clock .0 ≡ before .clock .0 + 1
+  low : 1 ≤ after .due
+  high : after .due ≤ 4
+
+ticks : (finished : Bool) (before core : Core) (store : Store) → core .clock .0 ≡ before .clock .0 → core .due ≤ 3
+    → Ticks before (turn finished core store .core)
+ticks finished before core store c d =
+    let r = due-after-range finished (core .due) d in record { clock = ap (λ (n : ℕ). n + 1) c; low = r .0; high = r .1 }
+
+four-cases : (P : Type 0) (n : ℕ) → 1 ≤ n → n ≤ 4 → (n ≡ 1 → P) → (n ≡ 2 → P) → (n ≡ 3 → P) → (n ≡ 4 → P) → P
+four-cases P zero l h p1 p2 p3 p4 = absurd (omega arith)
+four-cases P (suc zero) l h p1 p2 p3 p4 = p1 refl
+four-cases P (suc (suc zero)) l h p1 p2 p3 p4 = p2 refl
+four-cases P (suc (suc (suc zero))) l h p1 p2 p3 p4 = p3 refl
+four-cases P (suc (suc (suc (suc zero)))) l h p1 p2 p3 p4 = p4 refl
+four-cases P (suc (suc (suc (suc (suc n))))) l h p1 p2 p3 p4 = absurd (omega arith)
+
+cycle-ticks : (memory : List ℕ) (core : Core) → 1 ≤ core .due → core .due ≤ 4 → Ticks core (cycled memory core .core)
+cycle-ticks memory core low high =
+    let k = kindOf (core .ir) in
+    four-cases (Ticks core (cycled memory core .core)) (core .due) low high
+    (λ d. rw (first-cycle memory core d) (ticks false core (fetched memory core) Nothing refl (omega arith)))
+    (λ d. let keeps = second-keeps (stopOf k) k core in
+    rw (later memory core (λ e. omega arith) ∙ second-cycle memory core k d)
+    (ticks (isLast k core) core (second (stopOf k) k core) Nothing (keeps .0) (omega arith)))
+    (λ d. rw (later memory core (λ e. omega arith) ∙ third-cycle memory core k d)
+    (ticks (isLast k core) core (third k core) Nothing refl (omega arith)))
+    (λ d. let last : isLast k core ≡ true = le-leb (costOf k (core .flags)) (core .due) (omega (arith, cost-of-range k (core .flags) .1)) in
+    rw (later memory core (λ e. omega arith) ∙ fourth-cycle memory core k d, last)
+    (record { clock = refl; low = lit≤ tt; high = lit≤ tt }))
+
+-- so the clock moves by what is used
+pub clock-moves : (n : ℕ) (p : Progress) → 1 ≤ p .core .due → p .core .due ≤ 4
+    → cyclesOn n p .core .clock .0 + p .used ≡ p .core .clock .0 + cyclesOn n p .used
+unfolding advanced
+clock-moves zero p low high = rw (no-cycle p) refl
+clock-moves (suc n) p low high =
+    let t = cycle-ticks (p .memory) (p .core) low high in
+    by (isGoing (p .core .stop)) refl (clock-moves n (advanced p) (t .low) (t .high)) t
+  where
+    by : (g : Bool) → isGoing (p .core .stop) ≡ g
+        → cyclesOn n (advanced p) .core .clock .0 + advanced p .used ≡ advanced p .core .clock .0 + cyclesOn n (advanced p) .used
+        → Ticks (p .core) (cycled (p .memory) (p .core) .core)
+        → cyclesOn (suc n) p .core .clock .0 + p .used ≡ p .core .clock .0 + cyclesOn (suc n) p .used
+    by true g ih t = rw (one-more n p g) (omega (arith, t .clock))
+    by false g ih t = rw (none-more (suc n) p g) refl

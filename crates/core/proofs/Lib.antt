@@ -5,3 +5,4 @@ pub mod Foreign
 pub mod Bench
 pub mod Refusals
 pub mod Endings
+pub mod Taken

@@ -25,7 +25,7 @@ use Rattle.effects.specs.declared.Stop as stop
 use Rattle.effects.specs.declared.Stop.the-variants.{Going, Halted, Undefined}
 use Rattle.effects.specs.declared.Store.the-variants.{Nothing}
 use Rattle.core.specs.State.{Visible, visibleOf, register, reach, changed}
-use Rattle.core.specs.Datapath.{fetched, latched, stopped, second, third, fourth, withEffect, ticked, turn, isLast, laterCycle, cycled}
+use Rattle.core.specs.Datapath.{fetched, latched, stopped, second, third, fourthEffect, withEffect, ticked, turn, isLast, laterCycle, cycled}
 use Rattle.core.specs.Instruction.{wordDue, past, effectOf, after, memoryAfter, costAt}
 use Rattle.core.specs.Numbers.{isGoing}
 use Rattle.core.specs.Calls.{Progress, advancedBy, advanced, cyclesOn}
@@ -50,14 +50,8 @@ ready c =
       clock = c .clock;
     }
 
-going : (s : stop.Stop) → isGoing s ≡ true → s ≡ Going
-going Going e = refl
-going Halted e = cc
-going Undefined e = cc
-
-is-ready : (c : Core) → isGoing (c .stop) ≡ true → c .due ≡ 1 → c ≡ ready c
+is-ready : (c : Core) → c .stop ≡ Going → c .due ≡ 1 → c ≡ ready c
 is-ready c g d =
-    let s = going (c .stop) g in
     λ j. record {
       regs = c .regs;
       pc = c .pc;
@@ -68,7 +62,7 @@ is-ready c g d =
       rb = c .rb;
       ralu = c .ralu;
       due = d j;
-      stop = s j;
+      stop = g j;
       clock = c .clock;
     }
 
@@ -132,12 +126,12 @@ module _ (M : List ℕ) (c : Core) (u f : ℕ) where
   advance4 : isLast (kind M c) (after3 M c) ≡ true
       → advanced (at (after3 M c) M u f)
       ≡ advancedBy
-      (turn true (withEffect (fourth (kind M c) M (after3 M c)) (after3 M c)) (fourth (kind M c) M (after3 M c) .store))
+      (turn true (withEffect (fourthEffect (kind M c) M (after3 M c)) (after3 M c)) (fourthEffect (kind M c) M (after3 M c) .store))
       (at (after3 M c) M u f)
   unfolding advanced cycled laterCycle
   advance4 e =
       λ j. advancedBy
-      (turn (e j) (withEffect (fourth (kind M c) M (after3 M c)) (after3 M c)) (fourth (kind M c) M (after3 M c) .store))
+      (turn (e j) (withEffect (fourthEffect (kind M c) M (after3 M c)) (after3 M c)) (fourthEffect (kind M c) M (after3 M c) .store))
       (at (after3 M c) M u f)
 
 -- what the class says of the cost, and of the last cycle
@@ -190,18 +184,66 @@ module _ (M : List ℕ) (c : Core) (u f : ℕ) where
       (advance3 M c (u + 1 + 1) (f + 0 + 0) false e′)
 
   mid0 : Midway 0 (at (ready c) M u f) (cyclesOn 0 (at (ready c) M u f))
-  mid0 = rw (no-cycle (at (ready c) M u f)) (record { memory = refl; going = refl; due = refl; clock = omega arith; used = omega arith; finished = refl; regs = refl; sp = refl; flags = λ _. refl; fetched = λ h. absurd (omega arith) })
+  mid0 = rw (no-cycle (at (ready c) M u f)) (record {
+    memory = refl;
+    going = refl;
+    due = refl;
+    clock = omega arith;
+    used = omega arith;
+    finished = refl;
+    regs = refl;
+    sp = refl;
+    flags = λ _. refl;
+    fetched = λ h. absurd (omega arith);
+    latched = λ h. absurd (omega arith);
+  })
 
   mid1 : Midway 1 (at (ready c) M u f) (cyclesOn 1 (at (ready c) M u f))
-  mid1 = rw (one 0 ∙ no-cycle _) (record { memory = refl; going = refl; due = refl; clock = refl; used = refl; finished = omega arith; regs = refl; sp = refl; flags = λ _. refl; fetched = λ _. (refl, refl) })
+  mid1 = rw (one 0 ∙ no-cycle _) (record {
+    memory = refl;
+    going = refl;
+    due = refl;
+    clock = refl;
+    used = refl;
+    finished = omega arith;
+    regs = refl;
+    sp = refl;
+    flags = λ _. refl;
+    fetched = λ _. (refl, refl);
+    latched = λ h. absurd (omega arith);
+  })
 
   mid2 : stopOf (kind M c) ≡ Going → isLast (kind M c) (after1 M c) ≡ false
       → Midway 2 (at (ready c) M u f) (cyclesOn 2 (at (ready c) M u f))
-  mid2 s e = rw (two 0 s e ∙ no-cycle _) (record { memory = refl; going = refl; due = refl; clock = omega arith; used = omega arith; finished = omega arith; regs = refl; sp = refl; flags = λ _. refl; fetched = λ _. (refl, refl) })
+  mid2 s e = rw (two 0 s e ∙ no-cycle _) (record {
+    memory = refl;
+    going = refl;
+    due = refl;
+    clock = omega arith;
+    used = omega arith;
+    finished = omega arith;
+    regs = refl;
+    sp = refl;
+    flags = λ _. refl;
+    fetched = λ _. (refl, refl);
+    latched = λ _. (refl, refl);
+  })
 
   mid3 : stopOf (kind M c) ≡ Going → isLast (kind M c) (after1 M c) ≡ false → isLast (kind M c) (after2 M c) ≡ false
       → Midway 3 (at (ready c) M u f) (cyclesOn 3 (at (ready c) M u f))
-  mid3 s e e′ = rw (three 0 s e e′ ∙ no-cycle _) (record { memory = refl; going = refl; due = refl; clock = omega arith; used = omega arith; finished = omega arith; regs = refl; sp = refl; flags = λ h. absurd (omega arith); fetched = λ _. (refl, refl) })
+  mid3 s e e′ = rw (three 0 s e e′ ∙ no-cycle _) (record {
+    memory = refl;
+    going = refl;
+    due = refl;
+    clock = omega arith;
+    used = omega arith;
+    finished = omega arith;
+    regs = refl;
+    sp = refl;
+    flags = λ h. absurd (omega arith);
+    fetched = λ _. (refl, refl);
+    latched = λ _. (refl, refl);
+  })
 
 -- what the instruction leaves, by what it does
 after-by : (M : List ℕ) (v : Visible) (effect : Effect) → effectOf (wordDue M v) M v ≡ effect

@@ -1,10 +1,10 @@
--- The theorems `RefusedExactly` and `RefusedUnchanged` of specs/TheoremsOfCalls.antt: the tests of each number mean what the theorem says,
+-- The theorems `NumbersExactly` and `RefusalsUnchanged` of specs/TheoremsOfCalls.antt: the tests of each number mean what the theorem says,
 -- and a reply is a refusal exactly where a number applies.
 use mathlib.Core.Path.{_≡_, refl, sym, ap, _∙_}
 use mathlib.Core.Logic.{_↔_, _⊎_, inl, inr}
-use mathlib.Core.Bool.{Bool, true, false, not}
+use mathlib.Core.Bool.{Bool, true, false, not, cond}
 use mathlib.Core.List.{List, [], _∷_}
-use Prim.Native.Nat.{ℕ, zero, _+_, _<_}
+use Prim.Native.Nat.{ℕ, suc, zero, _+_, _<_}
 use native.Mathlib.Omega.{arith}
 use borrow.Author.Tests.{ltb-true, leb-true, leb-false, eqb-true, eqb-false, lt-ltb}
 use lib.Dec.{eqb, ltb, leb}
@@ -14,9 +14,9 @@ use Rattle.listing.specs.Listing.{listingAnswer}
 use Rattle.listing.proofs.Theorems.{refused-unchanged as listing-unchanged}
 use Rattle.effects.specs.declared.Stop.{Stop}
 use Rattle.effects.specs.declared.Stop.the-variants.{Going, Halted, Undefined}
-use Rattle.core.specs.Numbers.{wrongLength, isGoing, clockFull, firstOf, loadNumber, runNumber, stepNumber, viewNumber}
+use Rattle.core.specs.Numbers.{wrongLength, isGoing, clockFull, firstNumber, loadNumber, runNumber, stepNumber, viewNumber}
 use Rattle.core.specs.Calls.{Answer, refusedAt, stored, ran, viewed, refused, dueOne, dueInRange, Reply, unless, loadAnswer, loadedReply, viewedReply, ranReply, steppedReply, cyclesOn, starting, reset, load, view, run, step}
-use Rattle.core.specs.TheoremsOfCalls.{First, loadNumbers, runNumbers, stepNumbers, viewNumbers, RefusedExactly, RefusedUnchanged}
+use Rattle.core.specs.TheoremsOfCalls.{First, Taken, loadNumbers, runNumbers, stepNumbers, viewNumbers, NumbersExactly, RefusalsUnchanged}
 use Rattle.core.specs.State.{Visible, visibleOf}
 use Rattle.core.specs.Instruction.{costAt, instructed}
 use Rattle.core.specs.declared.Core.{Core}
@@ -26,25 +26,25 @@ use Rattle.core.specs.declared.End.{End}
 abbrev Means : Bool → Type 0 → Type 0
 Means test P = (test ≡ true → P) × (test ≡ false → P → ⊥)
 
-clash : {b : Bool} → b ≡ true → b ≡ false → ⊥
+pub clash : {b : Bool} → b ≡ true → b ≡ false → ⊥
 clash t f = let z : _≡_ {A = ℕ} 0 1 = cc in omega arith
 
 -- the first number of a list that applies, one at a time
-ends-first : (n : ℕ) → (firstOf [] ≡ n) × (n ≡ 0 → ⊥) → ⊥
-unfolding firstOf
+ends-first : (n : ℕ) → (firstNumber [] ≡ n) × (n ≡ 0 → ⊥) → ⊥
+unfolding firstNumber
 ends-first n (e, z) = z (sym e)
 
 -- the numbers found by a list of tests are those that apply
-Found : ℕ → List (ℕ × Bool) → List (ℕ × Type 0) → Type 0
-Found n tests numbers = ((firstOf tests ≡ n) × (n ≡ 0 → ⊥)) ↔ First n numbers
+pub Found : ℕ → List (ℕ × Bool) → List (ℕ × Type 0) → Type 0
+Found n tests numbers = ((firstNumber tests ≡ n) × (n ≡ 0 → ⊥)) ↔ First n numbers
 
 none : (n : ℕ) → Found n [] []
-unfolding Found firstOf
+unfolding Found firstNumber
 none n = (λ h. h .1 (sym (h .0)), λ z. absurd z)
 
 one : (n k : ℕ) (test : Bool) (P : Type 0) (tests : List (ℕ × Bool)) (numbers : List (ℕ × Type 0)) → (k ≡ 0 → ⊥) → Means test P
     → Found n tests numbers → Found n ((k, test) ∷ tests) ((k, P) ∷ numbers)
-unfolding Found firstOf
+unfolding Found firstNumber
 one n k true P tests numbers nonzero means rest = (λ h. inl (means .0 refl, sym (h .0)), from)
   where
     from : (P × (n ≡ k)) ⊎ ((P → ⊥) × First n numbers) → (k ≡ n) × (n ≡ 0 → ⊥)
@@ -52,49 +52,67 @@ one n k true P tests numbers nonzero means rest = (λ h. inl (means .0 refl, sym
     from (inr h) = absurd (h .0 (means .0 refl))
 one n k false P tests numbers nonzero means rest = (λ h. inr (means .1 refl, rest .0 h), from)
   where
-    from : (P × (n ≡ k)) ⊎ ((P → ⊥) × First n numbers) → (firstOf tests ≡ n) × (n ≡ 0 → ⊥)
+    from : (P × (n ≡ k)) ⊎ ((P → ⊥) × First n numbers) → (firstNumber tests ≡ n) × (n ≡ 0 → ⊥)
     from (inl h) = absurd (means .1 refl (h .0))
     from (inr h) = rest .1 (h .1)
 
--- what the tests mean
-length-means : (L : ℕ) → Means (wrongLength L) ((L ≡ 0) ⊎ (65536 < L))
-length-means L = by (eqb L 0) refl
+-- where no number applies, the list finds none
+pub none-found : (tests : List (ℕ × Bool)) (numbers : List (ℕ × Type 0)) → ((n : ℕ) → Found n tests numbers) → Taken numbers
+    → firstNumber tests ≡ 0
+unfolding Found
+none-found tests numbers found taken = by (eqb (firstNumber tests) 0) refl
   where
-    by : (zero : Bool) → eqb L 0 ≡ zero → Means (wrongLength L) ((L ≡ 0) ⊎ (65536 < L))
-    by true h = rw h (λ _. inl (eqb-true L 0 h), λ e. absurd (clash refl e))
-    by false h = rw h (λ e. inr (ltb-true 65536 L e), λ e. no e)
-      where
-        no : ltb 65536 L ≡ false → (L ≡ 0) ⊎ (65536 < L) → ⊥
-        no e (inl z) = eqb-false L 0 h z
-        no e (inr l) = clash (lt-ltb 65536 L l) e
+    by : (b : Bool) → eqb (firstNumber tests) 0 ≡ b → firstNumber tests ≡ 0
+    by true h = eqb-true (firstNumber tests) 0 h
+    by false h = absurd (taken (firstNumber tests) (found (firstNumber tests) .0 (refl, eqb-false (firstNumber tests) 0 h)))
+
+-- and then the first does not apply, and none of the others
+pub none-applies : (n : ℕ) (applies : Bool) (rest : List (ℕ × Bool)) → firstNumber ((suc n, applies) ∷ rest) ≡ 0
+    → (applies ≡ false) × (firstNumber rest ≡ 0)
+unfolding firstNumber
+none-applies n true rest e = absurd (omega arith)
+none-applies n false rest e = (refl, e)
+
+-- what the tests mean
+length-by : (L : ℕ) (zero long : Bool) → eqb L 0 ≡ zero → ltb 65536 L ≡ long → Means (cond zero true long) ((L ≡ 0) ⊎ (65536 < L))
+length-by L true long z l = (λ _. inl (eqb-true L 0 z), λ e. absurd (clash refl e))
+length-by L false true z l = (λ _. inr (ltb-true 65536 L l), λ e. absurd (clash refl e))
+length-by L false false z l = (λ e. absurd (clash e refl), λ _. no)
+  where
+    no : (L ≡ 0) ⊎ (65536 < L) → ⊥
+    no (inl h) = eqb-false L 0 z h
+    no (inr h) = clash (lt-ltb 65536 L h) l
+
+length-means : (L : ℕ) → Means (wrongLength L) ((L ≡ 0) ⊎ (65536 < L))
+length-means L = length-by L (eqb L 0) (ltb 65536 L) refl refl
 
 stop-means : (s : Stop) → Means (not (isGoing s)) (s ≡ Going → ⊥)
 stop-means Going = (λ e. absurd (clash e refl), λ e n. n refl)
 stop-means Halted = (λ e g. let z : _≡_ {A = ℕ} 0 1 = cc in omega arith, λ e. absurd (clash refl e))
 stop-means Undefined = (λ e g. let z : _≡_ {A = ℕ} 0 1 = cc in omega arith, λ e. absurd (clash refl e))
 
-one-means : (due : ℕ) → Means (not (eqb due 1)) (due ≡ 1 → ⊥)
-one-means due = by (eqb due 1) refl
-  where
-    by : (one : Bool) → eqb due 1 ≡ one → Means (not (eqb due 1)) (due ≡ 1 → ⊥)
-    by true h = rw h (λ e. absurd (clash e refl), λ e n. n (eqb-true due 1 h))
-    by false h = rw h (λ e. eqb-false due 1 h, λ e. absurd (clash refl e))
+one-by : (due : ℕ) (one : Bool) → eqb due 1 ≡ one → Means (not one) (due ≡ 1 → ⊥)
+one-by due true h = (λ e. absurd (clash e refl), λ e n. n (eqb-true due 1 h))
+one-by due false h = (λ e. eqb-false due 1 h, λ e. absurd (clash refl e))
+
+one-means : (core : Core) → Means (not (dueOne core)) (core .due ≡ 1 → ⊥)
+one-means core = one-by (core .due) (eqb (core .due) 1) refl
 
 clock-means : (clock b : ℕ) → Means (clockFull clock b) (4294967295 < clock + b)
 clock-means clock b = (λ e. ltb-true 4294967295 (clock + b) e, λ e l. clash (lt-ltb 4294967295 (clock + b) l) e)
 
-range-means : (core : Core) → Means (not (dueInRange core)) ((core .due < 1) ⊎ (4 < core .due))
-range-means core = by (leb 1 (core .due)) refl (leb (core .due) 4) refl
+range-by : (due : ℕ) (low high : Bool) → leb 1 due ≡ low → leb due 4 ≡ high
+    → Means (not (cond low high false)) ((due < 1) ⊎ (4 < due))
+range-by due false high l h = (λ _. inl (leb-false 1 due l), λ e. absurd (clash refl e))
+range-by due true false l h = (λ _. inr (leb-false due 4 h), λ e. absurd (clash refl e))
+range-by due true true l h = (λ e. absurd (clash e refl), λ _. no)
   where
-    by : (low : Bool) → leb 1 (core .due) ≡ low → (high : Bool) → leb (core .due) 4 ≡ high
-        → Means (not (dueInRange core)) ((core .due < 1) ⊎ (4 < core .due))
-    by false l high h = rw l (λ _. inl (leb-false 1 (core .due) l), λ e. absurd (clash refl e))
-    by true l false h = rw (l, h) (λ _. inr (leb-false (core .due) 4 h), λ e. absurd (clash refl e))
-    by true l true h = rw (l, h) (λ e. absurd (clash e refl), λ _. no)
-      where
-        no : (core .due < 1) ⊎ (4 < core .due) → ⊥
-        no (inl z) = let a = leb-true 1 (core .due) l in omega arith
-        no (inr z) = let a = leb-true (core .due) 4 h in omega arith
+    no : (due < 1) ⊎ (4 < due) → ⊥
+    no (inl z) = let a = leb-true 1 due l in omega arith
+    no (inr z) = let a = leb-true due 4 h in omega arith
+
+range-means : (core : Core) → Means (not (dueInRange core)) ((core .due < 1) ⊎ (4 < core .due))
+range-means core = range-by (core .due) (leb 1 (core .due)) (leb (core .due) 4) refl refl
 
 -- a reply is a refusal exactly where the number is one
 Never : ℕ → Answer → Type 0
@@ -139,12 +157,12 @@ both p q = (λ a. q .0 (p .0 a), λ c. p .1 (q .1 c))
 
 -- the tests of each call, in their order
 module _ (core : Core) (memory : List ℕ) (n : ℕ) where
-  load-found : Found n ((1, wrongLength (length memory)) ∷ (7, not (dueOne core)) ∷ []) (loadNumbers core memory)
+  pub load-found : Found n ((1, wrongLength (length memory)) ∷ (7, not (dueOne core)) ∷ []) (loadNumbers core memory)
   load-found =
       one n 1 _ _ _ _ (λ e. omega arith) (length-means (length memory))
-      (one n 7 _ _ _ _ (λ e. omega arith) (one-means (core .due)) (none n))
+      (one n 7 _ _ _ _ (λ e. omega arith) (one-means core) (none n))
 
-  run-found : (b : ℕ)
+  pub run-found : (b : ℕ)
       → Found n
       ((1, wrongLength (length memory))
       ∷ (8, not (isGoing (core .stop)))
@@ -158,7 +176,7 @@ module _ (core : Core) (memory : List ℕ) (n : ℕ) where
       (one n 7 _ _ _ _ (λ e. omega arith) (range-means core)
       (one n 9 _ _ _ _ (λ e. omega arith) (clock-means (core .clock .0) b) (none n))))
 
-  step-found : Found n
+  pub step-found : Found n
       ((1, wrongLength (length memory))
       ∷ (8, not (isGoing (core .stop)))
       ∷ (7, not (dueOne core))
@@ -168,15 +186,15 @@ module _ (core : Core) (memory : List ℕ) (n : ℕ) where
   step-found =
       one n 1 _ _ _ _ (λ e. omega arith) (length-means (length memory))
       (one n 8 _ _ _ _ (λ e. omega arith) (stop-means (core .stop))
-      (one n 7 _ _ _ _ (λ e. omega arith) (one-means (core .due))
+      (one n 7 _ _ _ _ (λ e. omega arith) (one-means core)
       (one n 9 _ _ _ _ (λ e. omega arith) (clock-means (core .clock .0) 4) (none n))))
 
-  view-found : Found n ((7, not (dueOne core)) ∷ []) (viewNumbers core)
-  view-found = one n 7 _ _ _ _ (λ e. omega arith) (one-means (core .due)) (none n)
+  pub view-found : Found n ((7, not (dueOne core)) ∷ []) (viewNumbers core)
+  view-found = one n 7 _ _ _ _ (λ e. omega arith) (one-means core) (none n)
 
-pub refused-exactly : RefusedExactly
+pub numbers-exactly : NumbersExactly
 unfolding loadNumber runNumber stepNumber viewNumber load run step view reset Found
-refused-exactly core memory n b text = (
+numbers-exactly core memory n b text = (
   both (refusal n _ core memory _ (load-never n (listingAnswer text (length memory)))) (load-found core memory n),
   both (refusal n _ core memory _ (ran-never n _ _ _)) (run-found core memory n b),
   both (refusal n _ core memory _ (ran-never n _ _ _)) (step-found core memory n),
@@ -206,9 +224,9 @@ load-unchanged core memory n offset text number = by (eqb number 0) refl
         rw h (λ e. (refl, listing-unchanged text memory n offset (lines-refused n offset (listingAnswer text (length memory)) e)))
     by false h = rw h (λ e. absurd (let z : _≡_ {A = ℕ} 0 1 = cc in omega arith))
 
-pub refused-unchanged : RefusedUnchanged
+pub refusals-unchanged : RefusalsUnchanged
 unfolding load run step view
-refused-unchanged core memory n offset b text = (
+refusals-unchanged core memory n offset b text = (
   unchanged n (loadNumber (length memory) (dueOne core)) core memory (loadedReply text core memory)
       (load-never n (listingAnswer text (length memory))),
   load-unchanged core memory n offset text (loadNumber (length memory) (dueOne core)),

@@ -1,5 +1,5 @@
 -- Document 01, 'Calls and the instruction machine': what each call answers, and what becomes of core and memory, for every core and
--- memory: what the contracts of the calls are to be equations with.
+-- memory. The contracts of the calls will be equations with these.
 use mathlib.Core.Bool.{Bool, true, false, cond}
 use mathlib.Core.List.{List}
 use Prim.Native.Nat.{ℕ, zero, suc, _+_}
@@ -56,8 +56,8 @@ pub record Reply : Type 0 where
 
 -- 'A refusal returns its number .. and changes nothing'; with the number 0 the call is taken
 abbrev pub unless : ℕ → Core → List ℕ → Reply → Reply
-unless number core memory taken =
-    cond (eqb number 0) taken (record { answer = refused number; core = core; memory = memory })
+unless number core memory reply =
+    cond (eqb number 0) reply (record { answer = refused number; core = core; memory = memory })
 
 -- 'Reset leaves memory as it was and is never refused'
 unfoldable pub reset : Core → List ℕ → Reply

@@ -99,7 +99,7 @@ abbrev pub third : Kind → Core → Core
 third kind core =
     withResult (calculated kind (core .ir) (core .ra) (core .rb) (core .ralu) (reach (core .ir) (visibleOf core))) core
 
--- 4. what comes of Rt, PC, SP, flags and stop state; the store is the caller's
+-- 4. Rt, PC, SP, flags and stop state as they come out; the store is the caller's
 abbrev pub withVisible : Visible → Core → Core
 withVisible v core =
     record {
@@ -119,8 +119,9 @@ withVisible v core =
 abbrev pub withEffect : Effect → Core → Core
 withEffect effect core = withVisible (changed (core .ir) effect (visibleOf core)) core
 
-abbrev pub fourth : Kind → List ℕ → Core → Effect
-fourth kind M core = writtenBack kind (core .rb) (core .ralu) M (reach (core .ir) (visibleOf core))
+-- what cycle 4 writes back
+abbrev pub fourthEffect : Kind → List ℕ → Core → Effect
+fourthEffect kind M core = writtenBack kind (core .rb) (core .ralu) M (reach (core .ir) (visibleOf core))
 
 -- 'The last cycle of an instruction .. makes cycle 1 due'
 abbrev pub dueAfter : Bool → ℕ → ℕ
@@ -151,13 +152,13 @@ turn finished core store = record { core = ticked finished core; finished = fini
 abbrev pub isLast : Kind → Core → Bool
 isLast kind core = leb (costOf kind (core .flags)) (core .due)
 
--- one cycle of a core with cycle 2, 3 or 4 due, by the instruction in IR. With a number due that is none of 1 to 4, which run refuses
--- with 7, nothing happens
+-- one cycle of a core with cycle 2, 3 or 4 due, by the instruction in IR; nothing happens with another number due, which is 1 above, or
+-- one that run refuses with 7
 unfoldable pub laterCycle : Kind → List ℕ → Core → Turn
 laterCycle kind M core =
     cond (eqb (core .due) 2) (turn (isLast kind core) (second (stopOf kind) kind core) Nothing)
     (cond (eqb (core .due) 3) (turn (isLast kind core) (third kind core) Nothing)
-    (cond (eqb (core .due) 4) (turn (isLast kind core) (withEffect (fourth kind M core) core) (fourth kind M core .store))
+    (cond (eqb (core .due) 4) (turn (isLast kind core) (withEffect (fourthEffect kind M core) core) (fourthEffect kind M core .store))
     (record { core = core; finished = false; store = Nothing })))
 
 -- one cycle of any core

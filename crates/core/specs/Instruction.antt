@@ -6,6 +6,7 @@ use Rattle.words.specs.Memory.{wordAt}
 use Rattle.words.specs.Arithmetic.{sum}
 use Rattle.isa.specs.Fields.{fieldA, fieldB}
 use Rattle.isa.specs.Cost.{costOf}
+use Rattle.isa.specs.declared.Kind.{Kind}
 use Rattle.table.specs.Table.{kindOf}
 use Rattle.effects.specs.Effect.{applied}
 use Rattle.effects.specs.Table.{executed}
@@ -23,8 +24,11 @@ abbrev pub past : Visible → Visible
 past v = record { regs = v .regs; pc = sum (v .pc) 1; sp = v .sp; flags = v .flags; stop = v .stop }
 
 -- 'then the table'
+abbrev pub executedOn : Kind → ℕ → List ℕ → Visible → Effect
+executedOn kind w M v = executed kind w (register (v .regs) (fieldA w)) (register (v .regs) (fieldB w)) M (reach w v)
+
 abbrev pub effectOf : ℕ → List ℕ → Visible → Effect
-effectOf w M v = executed (kindOf w) w (register (v .regs) (fieldA w)) (register (v .regs) (fieldB w)) M (reach w (past v))
+effectOf w M v = executedOn (kindOf w) w M (past v)
 
 -- registers, PC, SP, flags and stop state after the instruction at PC; the memory after it; its cycles
 unfoldable pub after : List ℕ → Visible → Visible

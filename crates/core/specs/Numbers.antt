@@ -10,7 +10,7 @@ use Rattle.effects.specs.declared.Stop.the-variants.{Going, Halted, Undefined}
 abbrev pub wrongLength : ℕ → Bool
 wrongLength L = cond (eqb L 0) true (ltb 65536 L)
 
--- '8: stopped'
+-- '8: stopped', that is, not going
 abbrev pub isGoing : Stop → Bool
 isGoing Going = true
 isGoing Halted = false
@@ -21,21 +21,21 @@ abbrev pub clockFull : ℕ → ℕ → Bool
 clockFull clock b = ltb 4294967295 (clock + b)
 
 -- the first number that applies; 0, which is no number, where none does and the call is taken
-unfoldable pub firstOf : List (ℕ × Bool) → ℕ
-firstOf [] = 0
-firstOf (x ∷ rest) = cond (x .1) (x .0) (firstOf rest)
+unfoldable pub firstNumber : List (ℕ × Bool) → ℕ
+firstNumber [] = 0
+firstNumber (x ∷ rest) = cond (x .1) (x .0) (firstNumber rest)
 
 -- 'Order: load 1, 7, lines; run and step 1, 8, 7, 9; view only 7.' '7: cycle due is not 1 (load, view, step), or outside 1 to 4
--- (run)': `inTurn` is whether it is one of those that the call asks for
+-- (run)': `dueRight` is whether it is one of those that the call asks for
 unfoldable pub loadNumber : ℕ → Bool → ℕ
-loadNumber L inTurn = firstOf ((1, wrongLength L) ∷ (7, not inTurn) ∷ [])
+loadNumber L dueRight = firstNumber ((1, wrongLength L) ∷ (7, not dueRight) ∷ [])
 
 unfoldable pub runNumber : ℕ → Stop → Bool → ℕ → ℕ → ℕ
-runNumber L stop inTurn clock b =
-    firstOf ((1, wrongLength L) ∷ (8, not (isGoing stop)) ∷ (7, not inTurn) ∷ (9, clockFull clock b) ∷ [])
+runNumber L stop dueRight clock b =
+    firstNumber ((1, wrongLength L) ∷ (8, not (isGoing stop)) ∷ (7, not dueRight) ∷ (9, clockFull clock b) ∷ [])
 
 unfoldable pub stepNumber : ℕ → Stop → Bool → ℕ → ℕ
-stepNumber L stop inTurn clock = runNumber L stop inTurn clock 4
+stepNumber L stop dueRight clock = runNumber L stop dueRight clock 4
 
 unfoldable pub viewNumber : Bool → ℕ
-viewNumber inTurn = firstOf ((7, not inTurn) ∷ [])
+viewNumber dueRight = firstNumber ((7, not dueRight) ∷ [])

@@ -26,7 +26,7 @@ visibleOf core = record { regs = core .regs; pc = core .pc; sp = core .sp; flags
 abbrev pub register : List ℕ → ℕ → ℕ
 register regs i = getD regs i 0
 
--- what the instruction w can change of it, before it does, and the whole after: Rt is the register that the field t names
+-- what the instruction w can change of it, where Rt is the register that the field t names; and the whole with that put back, changed
 abbrev pub reach : ℕ → Visible → Effect
 reach w v =
     record {

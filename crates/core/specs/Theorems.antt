@@ -7,22 +7,23 @@ use Prim.Native.Nat.{ℕ, _+_, _≤_, _<_}
 use lib.ListN.{set, replicate}
 use Rattle.words.specs.Memory.{wordAt}
 use Rattle.words.specs.Arithmetic.{sum}
+use Rattle.isa.specs.Fields.{fieldT, fieldA, fieldB}
+use Rattle.isa.specs.Control.{secondRegister}
 use Rattle.isa.specs.Cost.{costOf}
 use Rattle.table.specs.Table.{kindOf}
-use Rattle.effects.specs.declared.Stop.the-variants.{Undefined}
+use Rattle.effects.specs.declared.Stop.the-variants.{Going, Undefined}
 use Rattle.effects.specs.declared.Store.the-variants.{Nothing}
 use Rattle.core.specs.State.{visibleOf, register, freshVisible, between}
-use Rattle.core.specs.Datapath.{turn, cycled}
+use Rattle.core.specs.Datapath.{cycled}
 use Rattle.core.specs.Instruction.{after, memoryAfter, costAt, instructed}
-use Rattle.core.specs.Numbers.{isGoing}
 use Rattle.core.specs.Calls.{Progress, cyclesOn, starting}
 use Rattle.core.specs.declared.Core.{Core}
 
--- q is i cycles into the instruction that starts at p: nothing is stored, finished or stopped, registers and SP are as they were, the
--- flags too up to cycle 3, and from cycle 1 on IR has the word and PC is one past it
+-- q is i cycles into the instruction that starts at p: nothing is stored, finished or stopped; registers and SP are as they were, and
+-- so are the flags until cycle 3 is done; once cycle 1 is, IR has the word and PC is one past it; once cycle 2 is, RA and RB are latched
 pub record Midway (i : ℕ) (p q : Progress) : Type 0 where
   pub memory : q .memory ≡ p .memory
-  pub going : isGoing (q .core .stop) ≡ true
+  pub going : q .core .stop ≡ Going
   pub due : q .core .due ≡ i + 1
   pub clock : q .core .clock .0 ≡ p .core .clock .0 + i
   pub used : q .used ≡ p .used + i
@@ -31,6 +32,10 @@ pub record Midway (i : ℕ) (p q : Progress) : Type 0 where
   pub sp : q .core .sp ≡ p .core .sp
   pub flags : i ≤ 2 → q .core .flags ≡ p .core .flags
   pub fetched : 1 ≤ i → (q .core .pc ≡ sum (p .core .pc) 1) × (q .core .ir ≡ wordAt (p .memory) (p .core .pc))
+  pub latched :
+      2 ≤ i
+      → (q .core .ra ≡ register (p .core .regs) (fieldA (q .core .ir)))
+      × (q .core .rb ≡ register (p .core .regs) (secondRegister (kindOf (q .core .ir)) (fieldT (q .core .ir)) (fieldB (q .core .ir))))
 
 -- q is past that instruction, with the memory, registers, PC, SP, flags and stop state that the table gives
 pub record Finished (p q : Progress) : Type 0 where
@@ -45,25 +50,44 @@ pub record Finished (p q : Progress) : Type 0 where
 -- (proved as `one-instruction`)
 abbrev pub OneInstruction : Type 0
 OneInstruction =
-    (p : Progress) → isGoing (p .core .stop) ≡ true → p .core .due ≡ 1
+    (p : Progress) → p .core .stop ≡ Going → p .core .due ≡ 1
     → ((i : ℕ) → i < costAt (p .memory) (visibleOf (p .core)) → Midway i p (cyclesOn i p))
     × Finished p (cyclesOn (costAt (p .memory) (visibleOf (p .core))) p)
 
 -- 'A core that no call made may have, in cycle 3 or 4, an IR word whose listed cost under its flags is below the cycle due. That cycle
--- finishes the instruction and changes nothing else but the clock.' (proved as `foreign-core`)
+-- finishes the instruction and changes nothing else but the clock': cycle 1 is due, as after every last cycle (proved as
+-- `foreign-core`)
 abbrev pub ForeignCore : Type 0
 ForeignCore =
     (memory : List ℕ) (core : Core) → 3 ≤ core .due → core .due ≤ 4 → costOf (kindOf (core .ir)) (core .flags) < core .due
-    → cycled memory core ≡ turn true core Nothing
+    → cycled memory core
+    ≡ record {
+      core =
+          record {
+            regs = core .regs;
+            pc = core .pc;
+            sp = core .sp;
+            flags = core .flags;
+            ir = core .ir;
+            ra = core .ra;
+            rb = core .rb;
+            ralu = core .ralu;
+            due = 1;
+            stop = core .stop;
+            clock = record { 0 = core .clock .0 + 1 };
+          };
+      finished = true;
+      store = Nothing;
+    }
 
--- The bench: a core with p in R1, q in R2 and zero elsewhere, but for PC at the word and SP; the word is the last of a memory of zeros
-abbrev pub benchCore : ℕ → ℕ → ℕ → ℕ → Core
-benchCore p q pc sp =
+-- The bench: a core with p in R1, q in R2, PC at the word and zero elsewhere; the word is the last of a memory of zeros
+abbrev pub benchCore : ℕ → ℕ → ℕ → Core
+benchCore p q pc =
     between
     (record {
       regs = set (set (replicate 16 0) 1 p) 2 q;
       pc = pc;
-      sp = sp;
+      sp = 0;
       flags = freshVisible .flags;
       stop = freshVisible .stop;
     })
@@ -73,17 +97,17 @@ abbrev pub benchMemory : ℕ → ℕ → List ℕ
 benchMemory word pc = set (replicate (pc + 1) 0) pc word
 
 -- what a word does there, by four cycles of the datapath (fewer if the core stops) and by the instruction engine alike
-abbrev pub Does : ℕ → ℕ → ℕ → ℕ → ℕ → (Core → Type 0) → Type 0
-Does word p q pc sp Claim =
-    Claim (cyclesOn 4 (starting (benchCore p q pc sp) (benchMemory word pc)) .core)
-    × Claim (instructed (benchMemory word pc) (benchCore p q pc sp) .core)
+abbrev pub Does : ℕ → ℕ → ℕ → ℕ → (Core → Type 0) → Type 0
+Does word p q pc Claim =
+    Claim (cyclesOn 4 (starting (benchCore p q pc) (benchMemory word pc)) .core)
+    × Claim (instructed (benchMemory word pc) (benchCore p q pc) .core)
 
--- with the word at 0000 and SP 0000; and of a jump or call, by its place
+-- with the word at 0000; and of a jump or call, by its place
 abbrev pub Gives : ℕ → ℕ → ℕ → (Core → Type 0) → Type 0
-Gives word p q Claim = Does word p q 0 0 Claim
+Gives word p q Claim = Does word p q 0 Claim
 
 abbrev pub GoesTo : ℕ → ℕ → ℕ → Type 0
-GoesTo word pc target = Does word 0 0 pc 0 (λ core. core .pc ≡ target)
+GoesTo word pc target = Does word 0 0 pc (λ core. core .pc ≡ target)
 
 -- a register holds a value
 abbrev pub Holds : ℕ → ℕ → Core → Type 0

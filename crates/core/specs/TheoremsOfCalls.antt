@@ -1,12 +1,16 @@
--- What the calls come to, for every core and memory: when a call is refused, that it then changes nothing, and how a run ends. Three
--- statements, proved in proofs/Refusals.antt and proofs/Endings.antt.
+-- What the calls come to, for every core and memory: when a call is refused, and that it then changes nothing; what it does where it is
+-- taken. Five statements, proved in proofs/Refusals.antt and proofs/Taken.antt.
 use mathlib.Core.Path.{_≡_}
 use mathlib.Core.Logic.{_↔_, _⊎_}
 use mathlib.Core.List.{List, [], _∷_}
 use Prim.Native.Nat.{ℕ, _+_, _≤_, _<_}
 use lib.ListN.{length}
+use Rattle.listing.specs.Answers as listing
+use Rattle.listing.specs.Listing.{listingAnswer, listingMemory}
 use Rattle.effects.specs.declared.Stop.the-variants.{Going, Halted, Undefined}
-use Rattle.core.specs.Calls.{Answer, ran, refused, refusedAt, Reply, reset, load, view, run, step}
+use Rattle.core.specs.State.{visibleOf, freshCore}
+use Rattle.core.specs.Instruction.{costAt}
+use Rattle.core.specs.Calls.{Answer, stored, ran, viewed, refused, refusedAt, Reply, reset, load, view, run, step}
 use Rattle.core.specs.declared.Core.{Core}
 use Rattle.core.specs.declared.End.{End}
 use Rattle.core.specs.declared.End.the-variants.{H, U, B, M}
@@ -20,8 +24,8 @@ First n (x ∷ rest) = ((x .1) × (n ≡ x .0)) ⊎ ((x .1 → ⊥) × First n r
 abbrev pub WrongLength : List ℕ → Type 0
 WrongLength memory = (length memory ≡ 0) ⊎ (65536 < length memory)
 
-abbrev pub Stopped : Core → Type 0
-Stopped core = core .stop ≡ Going → ⊥
+abbrev pub IsStopped : Core → Type 0
+IsStopped core = core .stop ≡ Going → ⊥
 
 abbrev pub NotOneDue : Core → Type 0
 NotOneDue core = core .due ≡ 1 → ⊥
@@ -33,21 +37,22 @@ loadNumbers core memory = (1, WrongLength memory) ∷ (7, NotOneDue core) ∷ []
 abbrev pub runNumbers : ℕ → Core → List ℕ → List (ℕ × Type 0)
 runNumbers b core memory =
     (1, WrongLength memory)
-    ∷ (8, Stopped core)
+    ∷ (8, IsStopped core)
     ∷ (7, (core .due < 1) ⊎ (4 < core .due))
     ∷ (9, 4294967295 < core .clock .0 + b)
     ∷ []
 
 abbrev pub stepNumbers : Core → List ℕ → List (ℕ × Type 0)
 stepNumbers core memory =
-    (1, WrongLength memory) ∷ (8, Stopped core) ∷ (7, NotOneDue core) ∷ (9, 4294967295 < core .clock .0 + 4) ∷ []
+    (1, WrongLength memory) ∷ (8, IsStopped core) ∷ (7, NotOneDue core) ∷ (9, 4294967295 < core .clock .0 + 4) ∷ []
 
 abbrev pub viewNumbers : Core → List (ℕ × Type 0)
 viewNumbers core = (7, NotOneDue core) ∷ []
 
--- the numbers arise as listed, in this order, and only so, for every core and memory (proved as `refused-exactly`)
-abbrev pub RefusedExactly : Type 0
-RefusedExactly =
+-- the numbers 1, 7, 8 and 9 arise as listed, in this order, and only so, for every core and memory; those of a load's lines come with an
+-- offset, below (proved as `numbers-exactly`)
+abbrev pub NumbersExactly : Type 0
+NumbersExactly =
     (core : Core) (memory : List ℕ) (n b : ℕ) (text : List ℕ)
     → ((load text core memory .answer ≡ refused n) ↔ First n (loadNumbers core memory))
     × ((run b core memory .answer ≡ refused n) ↔ First n (runNumbers b core memory))
@@ -55,12 +60,13 @@ RefusedExactly =
     × ((view core memory .answer ≡ refused n) ↔ First n (viewNumbers core))
     × (reset core memory .answer ≡ refused n → ⊥)
 
--- 'A refusal returns its number (and offset) and changes nothing' (proved as `refused-unchanged`)
+-- 'A refusal returns its number (and offset) and changes nothing'
 abbrev pub UnchangedAt : Core → List ℕ → Answer → Reply → Type 0
 UnchangedAt core memory refusal reply = reply .answer ≡ refusal → (reply .core ≡ core) × (reply .memory ≡ memory)
 
-abbrev pub RefusedUnchanged : Type 0
-RefusedUnchanged =
+-- of every call that can be refused (proved as `refusals-unchanged`)
+abbrev pub RefusalsUnchanged : Type 0
+RefusalsUnchanged =
     (core : Core) (memory : List ℕ) (n offset b : ℕ) (text : List ℕ)
     → UnchangedAt core memory (refused n) (load text core memory)
     × UnchangedAt core memory (refusedAt n offset) (load text core memory)
@@ -76,10 +82,52 @@ Letter end core =
     × ((end ≡ B) ↔ ((core .stop ≡ Going) × (core .due ≡ 1)))
     × ((end ≡ M) ↔ ((core .stop ≡ Going) × (core .due ≡ 1 → ⊥)))
 
--- of a run or a step that is taken; a run uses its budget, 'fewer if the core stops' (proved as `ends`)
-abbrev pub Ends : Type 0
-Ends =
-    (core : Core) (memory : List ℕ) (b used finished : ℕ) (end : End)
-    → (run b core memory .answer ≡ ran used finished end
-    → Letter end (run b core memory .core) × (used ≤ b) × (run b core memory .core .stop ≡ Going → used ≡ b))
-    × (step core memory .answer ≡ ran used finished end → Letter end (step core memory .core))
+-- no number applies: the call is taken
+abbrev pub Taken : List (ℕ × Type 0) → Type 0
+Taken numbers = (n : ℕ) → First n numbers → ⊥
+
+-- a run that is taken answers the cycles used, which are its budget, 'fewer if the core stops', and the letter of the core that it hands
+-- back, whose clock has moved by what was used (proved as `run-taken`)
+abbrev pub RunTaken : Type 0
+RunTaken =
+    (core : Core) (memory : List ℕ) (b : ℕ) → Taken (runNumbers b core memory)
+    → (used : ℕ)
+    × (finished : ℕ)
+    × (end : End)
+    × (run b core memory .answer ≡ ran used finished end)
+    × Letter end (run b core memory .core)
+    × (used ≤ b)
+    × (run b core memory .core .stop ≡ Going → used ≡ b)
+    × (run b core memory .core .clock .0 ≡ core .clock .0 + used)
+
+-- a step that is taken answers its instruction's cost and 1 instruction finished, and is as a run of just that cost, but for the hidden
+-- registers (proved as `step-taken`)
+abbrev pub StepTaken : Type 0
+StepTaken =
+    (core : Core) (memory : List ℕ) → Taken (stepNumbers core memory)
+    → let asRun : Reply = run (costAt memory (visibleOf core)) core memory in
+    (end : End)
+    × (step core memory .answer ≡ ran (costAt memory (visibleOf core)) 1 end)
+    × (asRun .answer ≡ step core memory .answer)
+    × (asRun .memory ≡ step core memory .memory)
+    × (visibleOf (asRun .core) ≡ visibleOf (step core memory .core))
+    × (asRun .core .due ≡ step core memory .core .due)
+    × (asRun .core .clock .0 ≡ step core memory .core .clock .0)
+
+-- a load that is taken answers as the listing does, leaves the memory that the listing makes, and the core; a view that is taken shows the
+-- core and changes nothing; reset makes the core fresh and 'leaves memory as it was' (proved as `others-taken`)
+abbrev pub OthersTaken : Type 0
+OthersTaken =
+    (core : Core) (memory text : List ℕ)
+    → (Taken (loadNumbers core memory)
+    → ((count : ℕ) → listingAnswer text (length memory) ≡ listing.stored count → load text core memory .answer ≡ stored count)
+    × ((number offset : ℕ) → listingAnswer text (length memory) ≡ listing.refused number offset
+    → load text core memory .answer ≡ refusedAt number offset)
+    × (load text core memory .memory ≡ listingMemory text memory)
+    × (load text core memory .core ≡ core))
+    × (Taken (viewNumbers core)
+    → (view core memory .answer ≡ viewed (visibleOf core) 1 (core .clock .0))
+    × (view core memory .memory ≡ memory)
+    × (view core memory .core ≡ core))
+    × (reset core memory .core ≡ freshCore)
+    × (reset core memory .memory ≡ memory)

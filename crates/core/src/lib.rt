@@ -2,12 +2,10 @@
 ghost use mathlib.Core.Path.{_≡_};
 ghost use Prim.Native.Nat.{_+_, _≤_, _<_};
 ghost use lib.ListN.{set};
-ghost use Rattle.isa.specs.Fields.{fieldA, fieldB};
-ghost use Rattle.effects.specs.Table.{executed};
 ghost use Rattle.effects.specs.Cycles.{stopOf};
 ghost use Rattle.core.specs.State.{visibleOf, register, reach, between, freshCore};
 ghost use Rattle.core.specs.Datapath.{fetched, latched, stopped, second, withResult, third, withEffect, dueAfter, ticked, turn, isLast, laterCycle, cycled};
-ghost use Rattle.core.specs.Instruction.{instructed};
+ghost use Rattle.core.specs.Instruction.{executedOn, instructed};
 use alu::Outcome;
 use effects::Effect;
 use effects::Stop;
@@ -188,7 +186,7 @@ impl Core {
         self.with_result(outcome)
     }
 
-    // Cycle 4, but for the store.
+    // An effect put back, but for the store: cycle 4, and the last of a whole instruction.
     fn with_effect(self, effect: Effect) -> Core
         ensures { λ r. ⌜ r ≡ withEffect effect self ⌝ }
     {
@@ -221,7 +219,7 @@ impl Core {
         cost.0 <= self.due as u32
     }
 
-    // The clock grows by 1, and the next cycle is due, or cycle 1.
+    // The clock grows by 1; cycle 1 is due after the last cycle of an instruction, else the next one.
     fn tick(mut self, finished: bool) -> Core
         requires { ⌜ (self .clock .0 < 4294967295) × (self .due ≤ 4) ⌝ }
         ensures { λ r. ⌜ r ≡ ticked finished self ⌝ }
@@ -281,7 +279,7 @@ impl Core {
 
     // The instruction in IR by the table.
     fn execute(self, kind: Kind, memory: &[u16]) -> Effect
-        ensures { λ r. ⌜ r ≡ executed kind (self .ir) (register (self .regs) (fieldA (self .ir))) (register (self .regs) (fieldB (self .ir))) (now (memory .entry)) (reach (self .ir) (visibleOf self)) ⌝ }
+        ensures { λ r. ⌜ r ≡ executedOn kind (self .ir) (now (memory .entry)) (visibleOf self) ⌝ }
     {
         let regs = self.regs;
         let word = self.ir;

@@ -13,6 +13,7 @@ use Rattle.isa.specs.Cost.{jumpClass}
 use Rattle.isa.specs.declared.Kind.the-variants.{Undefined, Binary, Constant, Ld, St, Unary, Nop, Halt, Ldsp, Rts, Pop, Push, Jump, Call}
 use Rattle.effects.specs.Effect.{toRt, toPc, toSp}
 use Rattle.effects.specs.Table.{executed}
+use Rattle.effects.specs.declared.Effect.{Effect}
 use Rattle.effects.specs.Theorems.{AsCycles, CyclesAgree, Idle, PastTheLast, StackExactly}
 
 pub cycles-agree : CyclesAgree
@@ -62,18 +63,22 @@ past-the-last (Call target) w RA RB RALU M x = tt
 back : (sp : ℕ) → sp < 65536 → sum (difference sp 1) 1 ≡ sp
 back sp h = omega arith
 
--- the word that was stacked, one above the SP that was left
-found : (M : List ℕ) (sp v : ℕ) → sp < length M → sp < 65536 → wordAt (stored M sp v) (sum (difference sp 1) 1) ≡ v
-found M sp v l h = ap (wordAt (stored M sp v)) (back sp h) ∙ getD-set-same M sp v 0 l
+-- the word that was stacked is one above the SP that was left, and POP and RTS take it
+module _ (M : List ℕ) (sp v : ℕ) (y : Effect) (l : sp < length M) (h : sp < 65536) (e : y .sp ≡ difference sp 1) where
+  place : sum (y .sp) 1 ≡ sp
+  place = ap (λ (sp : ℕ). sum sp 1) e ∙ back sp h
+
+  word : wordAt (stored M sp v) (sum (y .sp) 1) ≡ v
+  word = ap (wordAt (stored M sp v)) place ∙ getD-set-same M sp v 0 l
+
+  popped : (u ra rb : ℕ) → executed Pop u ra rb (stored M sp v) y ≡ toRt v (toSp sp y)
+  popped u ra rb = let p = place in let w = word in λ j. toRt (w j) (toSp (p j) y)
+
+  returned : (u ra rb : ℕ) → executed Rts u ra rb (stored M sp v) y ≡ toPc v (toSp sp y)
+  returned u ra rb = let p = place in let w = word in λ j. toPc (w j) (toSp (p j) y)
 
 pub stack-exactly : StackExactly
 stack-exactly w ra rb u ra′ rb′ M x y target l h = (
-  λ e. let place = ap (λ (sp : ℕ). sum sp 1) e in
-      let sp = place ∙ back (x .sp) h in
-      let word = ap (wordAt (stored M (x .sp) (x .rt))) place ∙ found M (x .sp) (x .rt) l h in
-      λ j. toRt (word j) (toSp (sp j) y),
-  λ e. let place = ap (λ (sp : ℕ). sum sp 1) e in
-      let sp = place ∙ back (x .sp) h in
-      let word = ap (wordAt (stored M (x .sp) (x .pc))) place ∙ found M (x .sp) (x .pc) l h in
-      λ j. toPc (word j) (toSp (sp j) y),
+  λ e. (popped M (x .sp) (x .rt) y l h e u ra′ rb′, returned M (x .sp) (x .rt) y l h e u ra′ rb′),
+  λ e. (popped M (x .sp) (x .pc) y l h e u ra′ rb′, returned M (x .sp) (x .pc) y l h e u ra′ rb′),
 )

@@ -1,5 +1,5 @@
-// What an instruction does to the values that it can reach: by the instruction table at once, and in the cycles 2 (does it stop), 3 and
-// 4 of the datapath. There is no core here: the caller hands in the registers that the word names, and writes back what comes out.
+// What an instruction does to the values that it can reach: by the instruction table at once, and cycle by cycle, where cycle 2 has a
+// part only in stopping. There is no core here: the caller hands in the registers that the word names, and writes back what comes out.
 ghost use mathlib.Core.Path.{_≡_};
 ghost use Rattle.alu.specs.Flags.{silent as quiet};
 ghost use Rattle.effects.specs.Effect.{toRt, toPc, toSp, stopping, storing, result, pushed};

@@ -2,7 +2,7 @@
 use mathlib.Core.Path.{_≡_, refl, sym, ap, subst, _∙_}
 use mathlib.Core.Bool.{Bool, true, false, not}
 use mathlib.Core.List.{List, [], _∷_, _++_}
-use Prim.Native.Nat.{ℕ, suc, _+_, _≤_}
+use Prim.Native.Nat.{ℕ, _+_, _≤_}
 use native.Mathlib.Omega.{arith}
 use native.Mathlib.Nat.{zero-add, add-assoc}
 use borrow.Author.Tests.{eqb-true}
@@ -14,10 +14,11 @@ use Rattle.effects.specs.declared.Stop.{Stop}
 use Rattle.effects.specs.declared.Stop.the-variants.{Going, Halted, Undefined}
 use Rattle.core.specs.State.{visibleOf, freshCore}
 use Rattle.core.specs.Instruction.{after, memoryAfter, costAt, instructed}
-use Rattle.core.specs.Numbers.{wrongLength, isGoing, firstOf, loadNumber, runNumber, stepNumber, viewNumber}
+use Rattle.core.specs.Numbers.{wrongLength, isGoing, loadNumber, runNumber, stepNumber, viewNumber}
 use Rattle.core.specs.Calls as core
 use Rattle.core.specs.Calls.{ran, viewed, Progress, cyclesOn, starting, endOf, dueOne}
 use Rattle.core.specs.declared.Core.{Core}
+use Rattle.core.proofs.Refusals.{none-applies}
 use Rattle.core.proofs.Cycles.{cycles-add, counted, cycles-counted}
 use Rattle.lists.specs.Machine as machine
 use Rattle.lists.specs.Machine.{Machine, Logged, cyclesOf, looped, loopOf, used, spentAfter, noneSpent, stepped}
@@ -40,13 +41,6 @@ unless-same c m log n n′ r s e related taken = by (eqb n 0) refl
         → Same (core.unless n c (m .memory) r) (machine.unless n′ m s) (machine.unless n′ m s .log ++ log)
     by true h = rw (← e, h) (taken (eqb-true n 0 h))
     by false h = rw (← e, h) (record { answer = refl; memory = refl; related = related })
-
--- where no number applies, the first does not, and none of the others
-none-applies : (n : ℕ) (applies : Bool) (rest : List (ℕ × Bool)) → firstOf ((suc n, applies) ∷ rest) ≡ 0
-    → (applies ≡ false) × (firstOf rest ≡ 0)
-unfolding firstOf
-none-applies n true rest e = absurd (omega arith)
-none-applies n false rest e = (refl, e)
 
 -- where 7 does not, none is spent
 none-spent : (m : Machine) → not (noneSpent m) ≡ false → m .spent ≡ 0

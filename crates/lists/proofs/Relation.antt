@@ -6,15 +6,13 @@ use Prim.Native.Nat.{ℕ, zero, suc, _+_, _<_}
 use native.Mathlib.Omega.{arith}
 use borrow.Author.Tests.{le-leb, ne-eqb}
 use lib.Dec.{eqb}
-use Rattle.effects.specs.declared.Stop.{Stop}
-use Rattle.effects.specs.declared.Stop.the-variants.{Going, Halted, Undefined}
 use Rattle.core.specs.State.{Visible, visibleOf}
 use Rattle.core.specs.Instruction.{costAt}
 use Rattle.core.specs.Numbers.{isGoing}
 use Rattle.core.specs.Calls.{Progress, cyclesOn, starting, dueOne, dueInRange}
 use Rattle.core.specs.Theorems.{Midway}
 use Rattle.core.specs.declared.Core.{Core}
-use Rattle.core.proofs.Cycles.{no-cycle, counted, cost-range}
+use Rattle.core.proofs.Cycles.{only-going, no-cycle, counted, cost-range}
 use Rattle.core.proofs.OneInstruction.{one-instruction}
 use Rattle.lists.specs.Machine.{Machine, Logged, cyclesOf, noneSpent}
 
@@ -59,19 +57,12 @@ rest c m log s d v t e =
       total = omega arith;
     }
 
-both-going : (s t : Stop) → isGoing s ≡ true → isGoing t ≡ true → s ≡ t
-both-going Going Going e f = refl
-both-going Going Halted e f = cc
-both-going Going Undefined e f = cc
-both-going Halted t e f = cc
-both-going Undefined t e f = cc
-
 module _ {c : Core} {m : Machine} {log : List Logged} (r : Related c m log) where
   -- in the middle of the instruction, if the machine goes on
   midway : isGoing (m .visible .stop) ≡ true
       → Midway (m .spent) (starting (r .start) (m .memory)) (cyclesOn (m .spent) (starting (r .start) (m .memory)))
   midway g =
-      one-instruction (starting (r .start) (m .memory)) (ap (λ (v : Visible). isGoing (v .stop)) (r .visible) ∙ g) (r .due) .0 (m .spent)
+      one-instruction (starting (r .start) (m .memory)) (ap (λ (v : Visible). v .stop) (r .visible) ∙ only-going (m .visible .stop) g) (r .due) .0 (m .spent)
       (rw (r .visible) (r .within g))
 
   seen-going : isGoing (m .visible .stop) ≡ true → Seen c m
@@ -81,7 +72,7 @@ module _ {c : Core} {m : Machine} {log : List Logged} (r : Related c m log) wher
       let few = cost-range (m .memory) (m .visible) .1 in
       record {
         due = ap (λ (c : Core). c .due) (r .core) ∙ mid .due;
-        stop = both-going (c .stop) (m .visible .stop) (ap (λ (c : Core). isGoing (c .stop)) (r .core) ∙ mid .going) g;
+        stop = ap (λ (c : Core). c .stop) (r .core) ∙ mid .going ∙ sym (only-going (m .visible .stop) g);
         clock = ap (λ (c : Core). c .clock .0) (r .core) ∙ mid .clock ∙ r .clock;
         few = omega arith;
       }

@@ -1,6 +1,6 @@
 -- A run of the datapath and the loop of the instruction machine, from the start of an instruction on.
 use mathlib.Core.Path.{_≡_, refl, sym, ap, subst, _∙_}
-use mathlib.Core.Bool.{Bool, true, false}
+use mathlib.Core.Bool.{Bool, true, false, cond}
 use mathlib.Core.List.{List, _∷_}
 use Prim.Native.Nat.{ℕ, zero, suc, _+_, _-_, _≤_, _<_}
 use native.Mathlib.Omega.{arith}
@@ -16,9 +16,9 @@ use Rattle.core.specs.Numbers.{isGoing}
 use Rattle.core.specs.Calls.{Progress, cyclesOn, starting}
 use Rattle.core.specs.Theorems.{Finished}
 use Rattle.core.specs.declared.Core.{Core}
-use Rattle.core.proofs.Cycles.{no-cycle, none-more, cycles-add, counted, cycles-counted, cost-range}
+use Rattle.core.proofs.Cycles.{only-going, no-cycle, none-more, cycles-add, counted, cycles-counted, cost-range}
 use Rattle.core.proofs.OneInstruction.{one-instruction}
-use Rattle.lists.specs.Machine.{Logged, cyclesOf, Loop, goesOn, turned, looped, used, spentAfter}
+use Rattle.lists.specs.Machine.{Logged, cyclesOf, Loop, goesOn, afterOne, looped, used, spentAfter}
 
 -- the cost of the instruction at the start of which p is
 abbrev costNow : Progress → ℕ
@@ -99,7 +99,7 @@ ends-stopped t log p d e =
 ends-within : (t : ℕ) (log : List Logged) (p : Progress) → p .core .due ≡ 1 → isGoing (p .core .stop) ≡ true
     → t < costAt (p .memory) (visibleOf (p .core)) → Arrived p (cyclesOn t p) (loopAt p t log) (loopAt p t log)
 ends-within t log p d g l =
-    let mid = one-instruction p g d .0 t l in
+    let mid = one-instruction p (only-going (p .core .stop) g) d .0 t l in
     record {
       start = p .core;
       due = d;
@@ -149,7 +149,7 @@ one-before t t′ log p p′ q y f e a =
 
 -- an instruction executed
 next : (t : ℕ) (log : List Logged) (p p′ : Progress) → Finished p p′
-    → turned (loopAt p t log) ≡ loopAt p′ (t - costAt (p .memory) (visibleOf (p .core))) (here p ∷ log)
+    → afterOne (loopAt p t log) ≡ loopAt p′ (t - costAt (p .memory) (visibleOf (p .core))) (here p ∷ log)
 next t log p p′ f =
     let visible = sym (f .visible) in
     let memory = sym (f .memory) in
@@ -165,7 +165,7 @@ unfolding looped
 last-turn zero x e = refl
 last-turn (suc n) x e = rw e
 
-one-turn : (n : ℕ) (x : Loop) → goesOn x ≡ true → looped (suc n) x ≡ looped n (turned x)
+one-turn : (n : ℕ) (x : Loop) → goesOn x ≡ true → looped (suc n) x ≡ looped n (afterOne x)
 unfolding looped
 one-turn n x e = rw e
 
@@ -179,8 +179,12 @@ arrives-if n t log p d go = by (isGoing (p .core .stop)) refl (leb (costNow p) t
     by : (g : Bool) → isGoing (p .core .stop) ≡ g → (l : Bool) → leb (costNow p) t ≡ l
         → Arrived p (cyclesOn t p) (loopAt p t log) (looped n (loopAt p t log))
     by true g true l = go g (leb-true (costNow p) t l)
-    by true g false l = subst (Arrived p (cyclesOn t p) (loopAt p t log)) (sym (last-turn n (loopAt p t log) (rw (g, l)))) (ends-within t log p d g (leb-false (costNow p) t l))
-    by false g l m = subst (Arrived p (cyclesOn t p) (loopAt p t log)) (sym (last-turn n (loopAt p t log) (rw g))) (ends-stopped t log p d g)
+    by true g false l =
+        subst (Arrived p (cyclesOn t p) (loopAt p t log)) (sym (last-turn n (loopAt p t log) (λ j. cond (g j) (l j) false)))
+        (ends-within t log p d g (leb-false (costNow p) t l))
+    by false g l m =
+        subst (Arrived p (cyclesOn t p) (loopAt p t log)) (sym (last-turn n (loopAt p t log) (λ j. cond (g j) (leb (costNow p) t) false)))
+        (ends-stopped t log p d g)
 
 -- the loop, from every instruction's start
 pub arrives : (n t : ℕ) (log : List Logged) (p : Progress) → p .core .due ≡ 1 → t ≤ n
@@ -194,14 +198,15 @@ arrives (suc n) t log p d l = arrives-if (suc n) t log p d (λ g m. on g m (arri
         → Arrived p (cyclesOn t p) (loopAt p t log) (looped n (loopAt p t log)))
         → Arrived p (cyclesOn t p) (loopAt p t log) (looped (suc n) (loopAt p t log))
     on g m ih =
-        let f = one-instruction p g d .1 in
+        let f = one-instruction p (only-going (p .core .stop) g) d .1 in
         let c = costNow p in
+        let enough = le-leb c t m in
         let x = loopAt p t log in
         let p′ = cyclesOn c p in
         let e : t ≡ c + (t - c) = omega arith in
         let q : cyclesOn t p ≡ cyclesOn (t - c) p′ = ap (λ (t : ℕ). cyclesOn t p) e ∙ cycles-add c (t - c) p in
         let y : looped (suc n) x ≡ looped n (loopAt p′ (t - c) (here p ∷ log)) =
-        one-turn n x (rw (g, le-leb c t m)) ∙ ap (looped n) (next t log p p′ f) in
+        one-turn n x (λ j. cond (g j) (enough j) false) ∙ ap (looped n) (next t log p p′ f) in
         rw (q, y)
         (one-before t (t - c) log p p′ (cyclesOn (t - c) p′) (looped n (loopAt p′ (t - c) (here p ∷ log))) f e
         (ih (t - c) (here p ∷ log) p′ (f .due) (omega (arith, cost-range (p .memory) (visibleOf (p .core)) .0))))

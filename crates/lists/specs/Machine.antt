@@ -43,7 +43,7 @@ pub record Reply : Type 0 where
   pub log : List Logged
 
 abbrev pub unless : ℕ → Machine → Reply → Reply
-unless number m taken = cond (eqb number 0) taken (record { answer = refused number; machine = m; log = [] })
+unless number m reply = cond (eqb number 0) reply (record { answer = refused number; machine = m; log = [] })
 
 -- 'for 7 and the end letter, cycle 1 is due when s is 0, otherwise one of 2 to 4'
 abbrev pub noneSpent : Machine → Bool
@@ -80,8 +80,8 @@ abbrev pub goesOn : Loop → Bool
 goesOn x = cond (isGoing (x .visible .stop)) (leb (costAt (x .memory) (x .visible)) (x .t)) false
 
 -- 'execute it and take c from t'
-abbrev pub turned : Loop → Loop
-turned x =
+abbrev pub afterOne : Loop → Loop
+afterOne x =
     record {
       visible = after (x .memory) (x .visible);
       memory = memoryAfter (x .memory) (x .visible);
@@ -89,10 +89,10 @@ turned x =
       log = record { word = wordDue (x .memory) (x .visible); flags = x .visible .flags } ∷ x .log;
     }
 
--- an instruction takes a cycle at least, so that t turns are enough
+-- an instruction takes a cycle at least, so that t times are enough
 unfoldable pub looped : ℕ → Loop → Loop
 looped zero x = x
-looped (suc turns) x = cond (goesOn x) (looped turns (turned x)) x
+looped (suc fuel) x = cond (goesOn x) (looped fuel (afterOne x)) x
 
 abbrev pub loopOf : ℕ → Machine → Loop
 loopOf b m =

@@ -1,1 +1,1 @@
-// Lists of calls: the theorem that a core played from fresh agrees with the instruction machine of document 01.
+// Lists of calls: the theorem that on every one a fresh core agrees with the instruction machine of document 01.

@@ -5,13 +5,11 @@ use Prim.Native.Nat.{_+_}
 use native.Mathlib.Omega.{arith}
 use borrow.Author.Needs.{needs}
 use Rattle.core.specs.declared.Core.{Core}
-use Rattle.core.specs.Instruction.{after, costAt, instructed}
+use Rattle.core.specs.Instruction.{executedOn, after, costAt, instructed}
 use Rattle.core.specs.Datapath.{withEffect}
-use Rattle.core.specs.State.{visibleOf, register, reach, between}
-use Rattle.effects.specs.Table.{executed}
+use Rattle.core.specs.State.{visibleOf, between}
 use Rattle.table.specs.Table.{kindOf}
 use Rattle.isa.specs.Cost.{costOf}
-use Rattle.isa.specs.Fields.{fieldA, fieldB}
 use Rattle.core.proofs.Cycles.{cost-of-range}
 use Rattle.core.proofs.Core.instruction.Statement.{statement}
 use Rattle.core.proofs.Core.instruction.Tie as tie
@@ -48,7 +46,7 @@ returns c =
     let cost = c .before .before .before .cost .ensures ∙ (λ j. costOf (kind j) (core j .flags)) in
     let effect =
     c .before .before .execute .ensures
-    ∙ (λ j. executed (kind j) (core j .ir) (register (core j .regs) (fieldA (core j .ir))) (register (core j .regs) (fieldB (core j .ir))) M (reach (core j .ir) (visibleOf (core j)))) in
+    ∙ (λ j. executedOn (kind j) (core j .ir) M (visibleOf (core j))) in
     let next = c .before .with-effect .ensures ∙ (λ j. withEffect (effect j) (core j)) in
     let rest = c .rest .ensures ∙ (λ j. between (visibleOf (next j)) (next j .clock .0 + cost j)) in
     λ j. record { core = rest j; finished = true; store = effect j .store }
