@@ -152,8 +152,8 @@ turn finished core store = record { core = ticked finished core; finished = fini
 abbrev pub isLast : Kind → Core → Bool
 isLast kind core = leb (costOf kind (core .flags)) (core .due)
 
--- one cycle of a core with cycle 2, 3 or 4 due, by the instruction in IR; nothing happens with another number due, which is 1 above, or
--- one that run refuses with 7
+-- one cycle of a core with cycle 2, 3 or 4 due, by the instruction in IR. With another number due nothing happens: cycle 1 is done
+-- below, and run refuses all others with 7
 unfoldable pub laterCycle : Kind → List ℕ → Core → Turn
 laterCycle kind M core =
     cond (eqb (core .due) 2) (turn (isLast kind core) (second (stopOf kind) kind core) Nothing)

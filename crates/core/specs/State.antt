@@ -26,7 +26,7 @@ visibleOf core = record { regs = core .regs; pc = core .pc; sp = core .sp; flags
 abbrev pub register : List ℕ → ℕ → ℕ
 register regs i = getD regs i 0
 
--- what the instruction w can change of it, where Rt is the register that the field t names; and the whole with that put back, changed
+-- what the instruction w can change of it; Rt is the register that the field t of w names
 abbrev pub reach : ℕ → Visible → Effect
 reach w v =
     record {
@@ -38,6 +38,7 @@ reach w v =
       store = Nothing;
     }
 
+-- it, after an effect of the instruction w
 abbrev pub changed : ℕ → Effect → Visible → Visible
 changed w effect v =
     record {

@@ -241,7 +241,7 @@ impl Core {
         }
     }
 
-    // One cycle of a core with cycle 2, 3 or 4 due; with another number due nothing happens.
+    // One cycle of a core with cycle 2, 3 or 4 due; with another number due nothing happens (run refuses all but 1 to 4).
     fn later_cycle(self, kind: Kind, memory: &[u16]) -> Turn
         requires { ⌜ self .clock .0 < 4294967295 ⌝ }
         ensures { λ r. ⌜ r ≡ laterCycle kind (now (memory .entry)) self ⌝ }

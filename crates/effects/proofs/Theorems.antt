@@ -34,7 +34,7 @@ cycles-agree (Jump condition target) w t a b RALU register M x e = by-taken (tak
     by-taken : (goes : Bool) → taken condition (x .flags) ≡ goes
         → AsCycles (jumpClass (taken condition (x .flags))) (Jump condition target) w (register a) (register b) RALU M x
         (executed (Jump condition target) w (register a) (register b) M x)
-    by-taken true h = rw h (refl, rw h)
+    by-taken true h = rw h (refl, cc)
     by-taken false h = rw h (refl, refl, refl)
 cycles-agree (Call target) w t a b RALU register M x e = (refl, refl)
 
@@ -56,7 +56,7 @@ past-the-last (Jump condition target) w RA RB RALU M x = by (taken condition (x 
     by : (goes : Bool) → taken condition (x .flags) ≡ goes
         → Idle (jumpClass (taken condition (x .flags))) (Jump condition target) w RA RB RALU M x
     by true h = rw h tt
-    by false h = rw h (rw h)
+    by false h = rw h (cc)
 past-the-last (Call target) w RA RB RALU M x = tt
 
 -- one below, then one above
