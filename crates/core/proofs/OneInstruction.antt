@@ -196,6 +196,9 @@ module _ (M : List ℕ) (c : Core) (u f : ℕ) where
     flags = λ _. refl;
     fetched = λ h. absurd (omega arith);
     latched = λ h. absurd (omega arith);
+    early = λ _. (refl, refl);
+    idle = λ _. refl;
+    calculated = λ h. absurd (omega arith);
   })
 
   mid1 : Midway 1 (at (ready c) M u f) (cyclesOn 1 (at (ready c) M u f))
@@ -211,6 +214,9 @@ module _ (M : List ℕ) (c : Core) (u f : ℕ) where
     flags = λ _. refl;
     fetched = λ _. (refl, refl);
     latched = λ h. absurd (omega arith);
+    early = λ _. (refl, refl);
+    idle = λ _. refl;
+    calculated = λ h. absurd (omega arith);
   })
 
   mid2 : stopOf (kind M c) ≡ Going → isLast (kind M c) (after1 M c) ≡ false
@@ -227,6 +233,9 @@ module _ (M : List ℕ) (c : Core) (u f : ℕ) where
     flags = λ _. refl;
     fetched = λ _. (refl, refl);
     latched = λ _. (refl, refl);
+    early = λ h. absurd (omega arith);
+    idle = λ _. refl;
+    calculated = λ h. absurd (omega arith);
   })
 
   mid3 : stopOf (kind M c) ≡ Going → isLast (kind M c) (after1 M c) ≡ false → isLast (kind M c) (after2 M c) ≡ false
@@ -243,6 +252,9 @@ module _ (M : List ℕ) (c : Core) (u f : ℕ) where
     flags = λ h. absurd (omega arith);
     fetched = λ _. (refl, refl);
     latched = λ _. (refl, refl);
+    early = λ h. absurd (omega arith);
+    idle = λ h. absurd (omega arith);
+    calculated = λ _. (refl, refl);
   })
 
 -- what the instruction leaves, by what it does

@@ -9,7 +9,7 @@ use borrow.Author.Tests.{eq-eqb, eqb-true, leb-true, ltb-false, le-ltb}
 use lib.Dec.{leb}
 use lib.ListN.{length}
 use Rattle.effects.specs.declared.Stop.the-variants.{Going}
-use Rattle.core.specs.State.{visibleOf}
+use Rattle.core.specs.State.{visibleOf, between}
 use Rattle.core.specs.Instruction.{after, memoryAfter, costAt, instructed}
 use Rattle.core.specs.Numbers.{wrongLength, isGoing, clockFull, firstNumber, loadNumber, runNumber, stepNumber, viewNumber}
 use Rattle.core.specs.Calls.{ran, viewed, cyclesOn, starting, endOf, dueOne, dueInRange, Reply, unless, loadAnswer, loadedReply, viewedReply, ranReply, steppedReply, reset, load, view, run, step}
@@ -122,16 +122,17 @@ step-taken core memory taken =
     let cycles = f .used ∙ zero-add (costAt memory v) in
     let finished = f .finished in
     let visible = f .visible in
+    let clock = f .clock in
     let one = eq-eqb (q .core .due) 1 (f .due) in
     let answer : ranReply q .answer ≡ steppedReply (costAt memory v) (instructed memory core) memory .answer =
     λ j. ran (cycles j) (finished j) (endOf (visible j .stop) (one j)) in (
       endOf (after memory v .stop) true,
       ap (λ (r : Reply). r .answer) stepped,
+      rw stepped (letter (instructed memory core .core)),
       rw (ranned, stepped) answer,
       rw (ranned, stepped) (f .memory),
-      rw (ranned, stepped) (f .visible),
-      rw (ranned, stepped) (f .due),
-      rw (ranned, stepped) (f .clock),
+      rw ranned (f .due),
+      rw (ranned, stepped) (sym (λ j. between (visible j) (clock j))),
     )
 
 pub others-taken : OthersTaken
@@ -151,6 +152,7 @@ others-taken core memory text = (
         ap (λ (r : Reply). r .memory) own,
         ap (λ (r : Reply). r .core) own,
       ),
+  refl,
   refl,
   refl,
 )

@@ -11,16 +11,24 @@ use Rattle.isa.specs.Fields.{fieldT, fieldA, fieldB}
 use Rattle.isa.specs.Control.{secondRegister}
 use Rattle.isa.specs.Cost.{costOf}
 use Rattle.table.specs.Table.{kindOf}
+use Rattle.alu.specs.declared.Outcome.{Outcome}
+use Rattle.effects.specs.Cycles.{calculated}
 use Rattle.effects.specs.declared.Stop.the-variants.{Going, Undefined}
 use Rattle.effects.specs.declared.Store.the-variants.{Nothing}
-use Rattle.core.specs.State.{visibleOf, register, freshVisible, between}
+use Rattle.core.specs.State.{visibleOf, register, reach, freshVisible, between}
 use Rattle.core.specs.Datapath.{cycled}
-use Rattle.core.specs.Instruction.{after, memoryAfter, costAt, instructed}
+use Rattle.core.specs.Instruction.{past, after, memoryAfter, costAt, instructed}
 use Rattle.core.specs.Calls.{Progress, cyclesOn, starting}
 use Rattle.core.specs.declared.Core.{Core}
 
+-- what cycle 3 gives of the instruction that starts at p, from IR, RA and RB as latched
+abbrev pub outcomeOf : Progress → Core → Outcome
+outcomeOf p core =
+    calculated (kindOf (core .ir)) (core .ir) (core .ra) (core .rb) (p .core .ralu) (reach (core .ir) (past (visibleOf (p .core))))
+
 -- q is i cycles into the instruction that starts at p: nothing is stored, finished or stopped; registers and SP are as they were, and
--- so are the flags until cycle 3 is done; once cycle 1 is, IR has the word and PC is one past it; once cycle 2 is, RA and RB are latched
+-- so are the flags until cycle 3 is done; IR takes the word and PC moves one past it in cycle 1, RA and RB are latched in cycle 2, and RALU
+-- and the flags are calculated in cycle 3
 pub record Midway (i : ℕ) (p q : Progress) : Type 0 where
   pub memory : q .memory ≡ p .memory
   pub going : q .core .stop ≡ Going
@@ -36,8 +44,12 @@ pub record Midway (i : ℕ) (p q : Progress) : Type 0 where
       2 ≤ i
       → (q .core .ra ≡ register (p .core .regs) (fieldA (q .core .ir)))
       × (q .core .rb ≡ register (p .core .regs) (secondRegister (kindOf (q .core .ir)) (fieldT (q .core .ir)) (fieldB (q .core .ir))))
+  pub early : i ≤ 1 → (q .core .ra ≡ p .core .ra) × (q .core .rb ≡ p .core .rb)
+  pub idle : i ≤ 2 → q .core .ralu ≡ p .core .ralu
+  pub calculated : 3 ≤ i → (q .core .ralu ≡ outcomeOf p (q .core) .value) × (q .core .flags ≡ outcomeOf p (q .core) .flags)
 
--- q is past that instruction, with the memory, registers, PC, SP, flags and stop state that the table gives
+-- q is past that instruction, with the memory, registers, PC, SP, flags and stop state that the table gives; cycle 1 is due, its cost is
+-- on the clock and in the cycles used, and one more instruction is finished
 pub record Finished (p q : Progress) : Type 0 where
   pub visible : visibleOf (q .core) ≡ after (p .memory) (visibleOf (p .core))
   pub memory : q .memory ≡ memoryAfter (p .memory) (visibleOf (p .core))
@@ -46,8 +58,8 @@ pub record Finished (p q : Progress) : Type 0 where
   pub used : q .used ≡ p .used + costAt (p .memory) (visibleOf (p .core))
   pub finished : q .finished ≡ p .finished + 1
 
--- from every going core with cycle 1 due, as many cycles as the instruction at PC costs do what the table says, and no fewer
--- (proved as `one-instruction`)
+-- from every going core with cycle 1 due, as many cycles as the instruction at PC costs finish it and do what the table says; fewer leave
+-- it midway (proved as `one-instruction`)
 abbrev pub OneInstruction : Type 0
 OneInstruction =
     (p : Progress) → p .core .stop ≡ Going → p .core .due ≡ 1
@@ -102,7 +114,7 @@ Does word p q pc Claim =
     Claim (cyclesOn 4 (starting (benchCore p q pc) (benchMemory word pc)) .core)
     × Claim (instructed (benchMemory word pc) (benchCore p q pc) .core)
 
--- with the word at 0000; and of a jump or call, by its place
+-- with the word at 0000; and where a jump or call at `pc` goes
 abbrev pub Gives : ℕ → ℕ → ℕ → (Core → Type 0) → Type 0
 Gives word p q Claim = Does word p q 0 Claim
 

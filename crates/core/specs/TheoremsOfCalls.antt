@@ -8,9 +8,9 @@ use lib.ListN.{length}
 use Rattle.listing.specs.Answers as listing
 use Rattle.listing.specs.Listing.{listingAnswer, listingMemory}
 use Rattle.effects.specs.declared.Stop.the-variants.{Going, Halted, Undefined}
-use Rattle.core.specs.State.{visibleOf, freshCore}
+use Rattle.core.specs.State.{visibleOf, between, freshCore}
 use Rattle.core.specs.Instruction.{costAt}
-use Rattle.core.specs.Calls.{Answer, stored, ran, viewed, refused, refusedAt, Reply, reset, load, view, run, step}
+use Rattle.core.specs.Calls.{Answer, done, stored, ran, viewed, refused, refusedAt, Reply, reset, load, view, run, step}
 use Rattle.core.specs.declared.Core.{Core}
 use Rattle.core.specs.declared.End.{End}
 use Rattle.core.specs.declared.End.the-variants.{H, U, B, M}
@@ -49,8 +49,8 @@ stepNumbers core memory =
 abbrev pub viewNumbers : Core → List (ℕ × Type 0)
 viewNumbers core = (7, NotOneDue core) ∷ []
 
--- the numbers 1, 7, 8 and 9 arise as listed, in this order, and only so, for every core and memory; those of a load's lines come with an
--- offset, below (proved as `numbers-exactly`)
+-- the numbers 1, 7, 8 and 9 arise as listed above, in each call's own order, and only so, for every core and memory; 2, 3 and 4, of a
+-- load's lines, come with an offset: see `OthersTaken` (proved as `numbers-exactly`)
 abbrev pub NumbersExactly : Type 0
 NumbersExactly =
     (core : Core) (memory : List ℕ) (n b : ℕ) (text : List ℕ)
@@ -82,12 +82,13 @@ Letter end core =
     × ((end ≡ B) ↔ ((core .stop ≡ Going) × (core .due ≡ 1)))
     × ((end ≡ M) ↔ ((core .stop ≡ Going) × (core .due ≡ 1 → ⊥)))
 
--- no number applies: the call is taken
+-- none of these numbers applies: the call is taken (a load then comes to its lines, which may still refuse it)
 abbrev pub Taken : List (ℕ × Type 0) → Type 0
 Taken numbers = (n : ℕ) → First n numbers → ⊥
 
 -- a run that is taken answers the cycles used, which are its budget, 'fewer if the core stops', and the letter of the core that it hands
--- back, whose clock has moved by what was used (proved as `run-taken`)
+-- back, whose clock has moved by what was used; how instructions are counted is said by `Midway` and `Finished` of Theorems (proved as
+-- `run-taken`)
 abbrev pub RunTaken : Type 0
 RunTaken =
     (core : Core) (memory : List ℕ) (b : ℕ) → Taken (runNumbers b core memory)
@@ -100,22 +101,23 @@ RunTaken =
     × (run b core memory .core .stop ≡ Going → used ≡ b)
     × (run b core memory .core .clock .0 ≡ core .clock .0 + used)
 
--- a step that is taken answers its instruction's cost and 1 instruction finished, and is as a run of just that cost, but for the hidden
--- registers (proved as `step-taken`)
+-- a step that is taken answers its instruction's cost, 1 instruction finished and the letter of the core that it hands back; it is as a run
+-- of just that cost, but that the 'hidden registers become zero' (proved as `step-taken`)
 abbrev pub StepTaken : Type 0
 StepTaken =
     (core : Core) (memory : List ℕ) → Taken (stepNumbers core memory)
     → let asRun : Reply = run (costAt memory (visibleOf core)) core memory in
     (end : End)
     × (step core memory .answer ≡ ran (costAt memory (visibleOf core)) 1 end)
+    × Letter end (step core memory .core)
     × (asRun .answer ≡ step core memory .answer)
     × (asRun .memory ≡ step core memory .memory)
-    × (visibleOf (asRun .core) ≡ visibleOf (step core memory .core))
-    × (asRun .core .due ≡ step core memory .core .due)
-    × (asRun .core .clock .0 ≡ step core memory .core .clock .0)
+    × (asRun .core .due ≡ 1)
+    × (step core memory .core ≡ between (visibleOf (asRun .core)) (asRun .core .clock .0))
 
--- a load that is taken answers as the listing does, leaves the memory that the listing makes, and the core; a view that is taken shows the
--- core and changes nothing; reset makes the core fresh and 'leaves memory as it was' (proved as `others-taken`)
+-- a load that comes to its lines answers as the listing does, a refusal too, leaves the memory that the listing makes, and the core; a view
+-- that is taken shows the core and changes nothing; reset is never refused, makes the core fresh and 'leaves memory as it was' (proved
+-- as `others-taken`)
 abbrev pub OthersTaken : Type 0
 OthersTaken =
     (core : Core) (memory text : List ℕ)
@@ -129,5 +131,6 @@ OthersTaken =
     → (view core memory .answer ≡ viewed (visibleOf core) 1 (core .clock .0))
     × (view core memory .memory ≡ memory)
     × (view core memory .core ≡ core))
+    × (reset core memory .answer ≡ done)
     × (reset core memory .core ≡ freshCore)
     × (reset core memory .memory ≡ memory)

@@ -22,9 +22,9 @@ use Rattle.effects.specs.declared.Stop.the-variants.{Going}
 abbrev pub withFlags : Flags → Effect → Effect
 withFlags flags x = record { rt = x .rt; pc = x .pc; sp = x .sp; flags = flags; stop = x .stop; store = x .store }
 
--- Of an instruction for which the table says `whole`, by its class. Of 2 cycles: it stops in cycle 2, and that is the whole. Of 3: cycle 2
--- does not stop, cycle 3 leaves the flags, and the whole is nothing. Of 4: cycle 2 does not stop, and what cycle 4 writes back, from
--- the value and the flags of cycle 3, is the whole
+-- `whole` is what the table says of the instruction. By its class: of 2 cycles, cycle 2 stops, and the table does just that; of 3, cycle 2
+-- does not stop, cycle 3 leaves the flags, and the table changes nothing; of 4, cycle 2 does not stop, and the table does what cycle 4
+-- writes back from the value and the flags of cycle 3
 abbrev pub AsCycles : Class → Kind → ℕ → ℕ → ℕ → ℕ → List ℕ → Effect → Effect → Type 0
 AsCycles Stop k w RA RB RALU M x whole = (stopOf k ≡ Going → ⊥) × (whole ≡ stopping (stopOf k) x)
 AsCycles Short k w RA RB RALU M x whole = (stopOf k ≡ Going) × (calculated k w RA RB RALU x .flags ≡ x .flags) × (whole ≡ x)
@@ -32,7 +32,7 @@ AsCycles Full k w RA RB RALU M x whole =
     (stopOf k ≡ Going)
     × (whole ≡ writtenBack k RB (calculated k w RA RB RALU x .value) M (withFlags (calculated k w RA RB RALU x .flags) x))
 
--- for every kind, word and register bank: RA and RB are latched as cycle 2 does, by any fields t, a and b (proved as `cycles-agree`)
+-- for every kind, word and register bank: RA and RB are as cycle 2 latches them, for any fields t, a and b (proved as `cycles-agree`)
 abbrev pub CyclesAgree : Type 0
 CyclesAgree =
     (k : Kind) (w t a b RALU : ℕ) (register : ℕ → ℕ) (M : List ℕ) (x : Effect) → x .rt ≡ register t
@@ -52,8 +52,8 @@ PastTheLast = (k : Kind) (w RA RB RALU : ℕ) (M : List ℕ) (x : Effect) → Id
 
 -- 'PUSH: M(SP) takes Rt, then SP-1', 'A call stores PC at M(SP), then SP-1', 'RTS: PC takes M(SP+1), SP+1', 'POP: Rt likewise': in the
 -- memory and with the SP that a PUSH or a call left, POP and RTS take the word that it stacked (Rt, or PC, which is one past the call),
--- and SP is as before. The words w and u and the other registers are free; SP is below L, where a word is not lost (proved as
--- `stack-exactly`)
+-- and SP is as before. The words w and u and the other registers are free; SP is a word, and below L, where a word is not lost (proved
+-- as `stack-exactly`)
 abbrev pub StackExactly : Type 0
 StackExactly =
     (w ra rb u ra′ rb′ : ℕ) (M : List ℕ) (x y : Effect) (target : Target) → x .sp < length M → x .sp < 65536
