@@ -101,10 +101,10 @@ due-after-range : (finished : Bool) (due : ℕ) → due ≤ 3 → (1 ≤ dueAfte
 due-after-range true due h = (lit≤ tt, lit≤ tt)
 due-after-range false due h = (omega arith, omega arith)
 
-record Ticks (before after : Core) : Type 0 where
-  clock : after .clock .0 ≡ before .clock .0 + 1
-  low : 1 ≤ after .due
-  high : after .due ≤ 4
+pub record Ticks (before after : Core) : Type 0 where
+  pub clock : after .clock .0 ≡ before .clock .0 + 1
+  pub low : 1 ≤ after .due
+  pub high : after .due ≤ 4
 
 ticks : (finished : Bool) (before core : Core) (store : Store) → core .clock .0 ≡ before .clock .0 → core .due ≤ 3
     → Ticks before (turn finished core store .core)
@@ -119,7 +119,7 @@ four-cases P (suc (suc (suc zero))) l h p1 p2 p3 p4 = p3 refl
 four-cases P (suc (suc (suc (suc zero)))) l h p1 p2 p3 p4 = p4 refl
 four-cases P (suc (suc (suc (suc (suc n))))) l h p1 p2 p3 p4 = absurd (omega arith)
 
-cycle-ticks : (memory : List ℕ) (core : Core) → 1 ≤ core .due → core .due ≤ 4 → Ticks core (cycled memory core .core)
+pub cycle-ticks : (memory : List ℕ) (core : Core) → 1 ≤ core .due → core .due ≤ 4 → Ticks core (cycled memory core .core)
 cycle-ticks memory core low high =
     let k = kindOf (core .ir) in
     four-cases (Ticks core (cycled memory core .core)) (core .due) low high

@@ -6,3 +6,4 @@ pub mod Bench
 pub mod Refusals
 pub mod Endings
 pub mod Taken
+pub mod Replies

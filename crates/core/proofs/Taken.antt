@@ -20,15 +20,15 @@ use Rattle.core.proofs.OneInstruction.{one-instruction}
 use Rattle.core.proofs.Refusals.{none-found, none-applies, clash, load-found, run-found, step-found, view-found}
 use Rattle.core.proofs.Endings.{letter, budget, clock-moves}
 
-reply-own : (number : ℕ) (core : Core) (memory : List ℕ) (reply : Reply) → number ≡ 0 → unless number core memory reply ≡ reply
+pub reply-own : (number : ℕ) (core : Core) (memory : List ℕ) (reply : Reply) → number ≡ 0 → unless number core memory reply ≡ reply
 reply-own number core memory reply e = rw (eq-eqb number 0 e)
 
-in-range : (low high : Bool) → not (cond low high false) ≡ false → (low ≡ true) × (high ≡ true)
+pub in-range : (low high : Bool) → not (cond low high false) ≡ false → (low ≡ true) × (high ≡ true)
 in-range true true e = (refl, refl)
 in-range true false e = absurd (clash refl e)
 in-range false high e = absurd (clash refl e)
 
-not-false : (b : Bool) → not b ≡ false → b ≡ true
+pub not-false : (b : Bool) → not b ≡ false → b ≡ true
 not-false true e = refl
 not-false false e = absurd (clash refl e)
 

@@ -1,5 +1,5 @@
 -- Document 01, 'Calls and the instruction machine': what each call answers, and what becomes of core and memory, for every core and
--- memory. The contracts of the calls will be equations with these.
+-- memory. The contracts of the calls are equations with these, by way of Answers.
 use mathlib.Core.Bool.{Bool, true, false, cond}
 use mathlib.Core.List.{List}
 use Prim.Native.Nat.{ℕ, zero, suc, _+_}

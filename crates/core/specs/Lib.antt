@@ -4,5 +4,6 @@ pub mod Datapath
 pub mod Instruction
 pub mod Numbers
 pub mod Calls
+pub mod Answers
 pub mod Theorems
 pub mod TheoremsOfCalls

@@ -26,7 +26,7 @@ firstNumber [] = 0
 firstNumber (x ∷ rest) = cond (x .1) (x .0) (firstNumber rest)
 
 -- 'Order: load 1, 7, lines; run and step 1, 8, 7, 9; view only 7.' '7: cycle due is not 1 (load, view, step), or outside 1 to 4
--- (run)': `dueRight` is whether it is one of those that the call asks for
+-- (run)': `dueRight` is whether it is one that the call takes
 unfoldable pub loadNumber : ℕ → Bool → ℕ
 loadNumber L dueRight = firstNumber ((1, wrongLength L) ∷ (7, not dueRight) ∷ [])
 

@@ -115,7 +115,7 @@ StepTaken =
     × (asRun .core .due ≡ 1)
     × (step core memory .core ≡ between (visibleOf (asRun .core)) (asRun .core .clock .0))
 
--- a load that comes to its lines answers as the listing does, a refusal too, leaves the memory that the listing makes, and the core; a view
+-- a load that comes to its lines answers what `listingAnswer` says, a refusal too, leaves the memory that the listing makes, and the core; a view
 -- that is taken shows the core and changes nothing; reset is never refused, makes the core fresh and 'leaves memory as it was' (proved
 -- as `others-taken`)
 abbrev pub OthersTaken : Type 0

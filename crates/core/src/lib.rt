@@ -1,11 +1,20 @@
-// The core of document 01, by value: one cycle of the datapath, and one instruction at once.
+// The core of document 01, by value, and its five calls: reset, load, run, step and view. Run goes by cycles of the datapath, step by one
+// instruction at once. No call asks anything of its caller: what does not fit is refused and changes nothing. In a contract `self` is the core
+// as it was handed in, whatever becomes of it.
 ghost use mathlib.Core.Path.{_≡_};
+ghost use mathlib.Core.Bool.{cond};
 ghost use Prim.Native.Nat.{_+_, _≤_, _<_};
 ghost use lib.ListN.{set};
 ghost use Rattle.effects.specs.Cycles.{stopOf};
 ghost use Rattle.core.specs.State.{visibleOf, register, reach, between, freshCore};
 ghost use Rattle.core.specs.Datapath.{fetched, latched, stopped, second, withResult, third, withEffect, dueAfter, ticked, turn, isLast, laterCycle, cycled};
 ghost use Rattle.core.specs.Instruction.{executedOn, instructed};
+ghost use Rattle.listing.specs.Answers.{storeAnswer};
+ghost use Rattle.words.specs.Arithmetic.{bit};
+ghost use Rattle.effects.specs.Effect.{applied};
+ghost use Rattle.core.specs.Numbers.{wrongLength, isGoing, clockFull, viewNumber, loadNumber, runNumber};
+ghost use Rattle.core.specs.Calls.{ran, refused, loadAnswer, goingEnd, endOf, dueOne, dueInRange, reset, load, run, step, view};
+ghost use Rattle.core.specs.Answers.{refusalNumber, verdictNumber, loadAnswerOf, runAnswerOf, shown, resetGave, loadGave, runGave, viewGave};
 use alu::Outcome;
 use effects::Effect;
 use effects::Stop;
@@ -13,11 +22,14 @@ use effects::Store;
 use isa::Cycles;
 use isa::Flags;
 use isa::Kind;
+use listing::Fault;
+use listing::StoreAnswer;
 
 // A number of instructions, which no addition joins with a number of cycles.
 pub struct Instructions(pub u32);
 
-// The core. `due` is the cycle due next, 1 to 4 on every core that a call made; `ir`, `ra`, `rb` and `ralu` are the hidden registers.
+// The core. `due` is the cycle due next, 1 to 4 on every core that calls make of a fresh one; `ir`, `ra`, `rb` and `ralu` are the hidden
+// registers.
 pub struct Core {
     pub regs: [u16; 16],
     pub pc: u16,
@@ -32,7 +44,7 @@ pub struct Core {
     pub clock: Cycles,
 }
 
-// A core after a cycle or an instruction, whether that was the last cycle of an instruction, and the word that is to be stored.
+// A core after a cycle or an instruction, whether that finished an instruction, and the store that is to be made, if any.
 pub struct Turn {
     pub core: Core,
     pub finished: bool,
@@ -45,6 +57,73 @@ pub enum End {
     U,
     B,
     M,
+}
+
+// Why a call is refused before it starts: numbers 1, 7, 8 and 9.
+pub enum Refusal {
+    WrongLength,
+    WrongCycle,
+    Stopped,
+    ClockFull,
+}
+
+// What a call finds before it starts.
+enum Verdict {
+    Taken,
+    Refused(Refusal),
+}
+
+// How many words a load stored; or why it did not start; or the first fault of the listing and the offset of its line's start.
+pub enum LoadAnswer {
+    Stored(usize),
+    Refused(Refusal),
+    Faulty(Fault, usize),
+}
+
+// What a run or a step answers.
+pub enum RunAnswer {
+    Ran {
+        cycles: Cycles,
+        instructions: Instructions,
+        end: End,
+    },
+    Refused(Refusal),
+}
+
+// A view answers its number, or that the snapshot beside it holds.
+pub enum ViewAnswer {
+    Viewed,
+    Refused(Refusal),
+}
+
+// All of a core but its hidden registers.
+pub struct Snapshot {
+    pub regs: [u16; 16],
+    pub pc: u16,
+    pub sp: u16,
+    pub flags: Flags,
+    pub stop: Stop,
+    pub due: u8,
+    pub clock: Cycles,
+}
+
+// What a call gives back: the next core and the answer. An enum cannot hold a bank of registers, so the core stands beside the answer, and
+// so does what a view shows.
+pub struct LoadReply {
+    pub core: Core,
+    pub answer: LoadAnswer,
+}
+
+pub struct RunReply {
+    pub core: Core,
+    pub answer: RunAnswer,
+}
+
+// A refused view answers its number alone. The papers leave free what the snapshot then holds: it is that of a fresh core.
+pub struct ViewReply {
+    pub core: Core,
+    pub answer: ViewAnswer,
+    pub snapshot: Snapshot,
 }
 
 // A fresh core: zero everywhere, going, with cycle 1 due.
@@ -93,6 +172,117 @@ fn due_after(finished: bool, due: u8) -> u8
     ensures { λ r. ⌜ r ≡ dueAfter finished due ⌝ }
 {
     if finished { 1 } else { due + 1 }
+}
+
+fn is_going(stop: Stop) -> bool
+    ensures { λ r. ⌜ r ≡ isGoing stop ⌝ }
+{
+    match stop {
+        Stop::Going => true,
+        Stop::Halted => false,
+        Stop::Undefined => false,
+    }
+}
+
+fn wrong_length(length: usize) -> bool
+    ensures { λ r. ⌜ r ≡ wrongLength length ⌝ }
+{
+    if length == 0 {
+        return true;
+    }
+    65536 < length
+}
+
+fn clock_full(clock: Cycles, b: u32) -> bool
+    ensures { λ r. ⌜ r ≡ clockFull (clock .0) b ⌝ }
+{
+    4294967295 < clock.0 as u64 + b as u64
+}
+
+// The number of a view: 7.
+fn view_verdict(ready: bool) -> Verdict
+    ensures { λ r. ⌜ verdictNumber r ≡ viewNumber ready ⌝ }
+{
+    if ready {
+        Verdict::Taken
+    } else {
+        Verdict::Refused(Refusal::WrongCycle)
+    }
+}
+
+// The numbers of a load before its lines: 1, then as a view.
+fn load_verdict(length: usize, ready: bool) -> Verdict
+    ensures { λ r. ⌜ verdictNumber r ≡ loadNumber length ready ⌝ }
+{
+    let wrong = wrong_length(length);
+    if wrong {
+        return Verdict::Refused(Refusal::WrongLength);
+    }
+    view_verdict(ready)
+}
+
+// The numbers of a run, and of a step with 4 for b: 1, 8, 7, 9.
+fn run_verdict(length: usize, stop: Stop, ready: bool, clock: Cycles, b: u32) -> Verdict
+    ensures { λ r. ⌜ verdictNumber r ≡ runNumber length stop ready (clock .0) b ⌝ }
+{
+    let wrong = wrong_length(length);
+    let going = is_going(stop);
+    let full = clock_full(clock, b);
+    if wrong {
+        return Verdict::Refused(Refusal::WrongLength);
+    }
+    if !going {
+        return Verdict::Refused(Refusal::Stopped);
+    }
+    if !ready {
+        return Verdict::Refused(Refusal::WrongCycle);
+    }
+    if full {
+        return Verdict::Refused(Refusal::ClockFull);
+    }
+    Verdict::Taken
+}
+
+fn load_answer(answer: StoreAnswer) -> LoadAnswer
+    ensures { λ r. ⌜ loadAnswerOf r ≡ loadAnswer (storeAnswer answer) ⌝ }
+{
+    match answer {
+        StoreAnswer::Stored(count) => LoadAnswer::Stored(count),
+        StoreAnswer::Refused(fault, offset) => LoadAnswer::Faulty(fault, offset),
+    }
+}
+
+// The end letter.
+fn end_of(stop: Stop, first: bool) -> End
+    ensures { λ r. ⌜ r ≡ endOf stop first ⌝ }
+{
+    match stop {
+        Stop::Going => going_end(first),
+        Stop::Halted => End::H,
+        Stop::Undefined => End::U,
+    }
+}
+
+fn going_end(first: bool) -> End
+    ensures { λ r. ⌜ r ≡ goingEnd first ⌝ }
+{
+    if first { End::B } else { End::M }
+}
+
+fn count_of(finished: bool) -> u32
+    ensures { λ r. ⌜ r ≡ bit finished ⌝ }
+{
+    if finished { 1 } else { 0 }
+}
+
+// The store of a cycle or an instruction, made.
+fn apply(store: Store, memory: &mut [u16])
+    ensures { λ _. ⌜ now (memory .exit) ≡ applied store (now (memory .entry)) ⌝ }
+{
+    match store {
+        Store::Nothing => {}
+        Store::Word { address, word } => words::write(memory, address, word),
+    }
 }
 
 impl Core {
@@ -161,7 +351,7 @@ impl Core {
         }
     }
 
-    // What the instruction in IR can change, before it does.
+    // What the instruction in IR can change, as it is: Rt, PC, SP, flags and stop state, and nothing to store.
     fn reach(self) -> Effect
         ensures { λ r. ⌜ r ≡ reach (self .ir) (visibleOf self) ⌝ }
     {
@@ -186,7 +376,7 @@ impl Core {
         self.with_result(outcome)
     }
 
-    // An effect put back, but for the store: cycle 4, and the last of a whole instruction.
+    // An effect put into the core, all but its store: for cycle 4 and for the instruction engine.
     fn with_effect(self, effect: Effect) -> Core
         ensures { λ r. ⌜ r ≡ withEffect effect self ⌝ }
     {
@@ -319,5 +509,161 @@ impl Core {
             finished: true,
             store: store,
         }
+    }
+
+    fn one_due(self) -> bool
+        ensures { λ r. ⌜ r ≡ dueOne self ⌝ }
+    {
+        self.due == 1
+    }
+
+    fn due_in_range(self) -> bool
+        ensures { λ r. ⌜ r ≡ dueInRange self ⌝ }
+    {
+        if 1 <= self.due {
+            return self.due <= 4;
+        }
+        false
+    }
+
+    fn snapshot(self) -> Snapshot
+        ensures { λ r. ⌜ r ≡ shown self ⌝ }
+    {
+        let regs = self.regs;
+        let flags = self.flags;
+        let stop = self.stop;
+        let clock = self.clock;
+        Snapshot {
+            regs: regs,
+            pc: self.pc,
+            sp: self.sp,
+            flags: flags,
+            stop: stop,
+            due: self.due,
+            clock: clock,
+        }
+    }
+
+    // What a run or a step that is taken answers, beside the core that it leaves.
+    fn ran(self, used: Cycles, finished: Instructions) -> RunReply
+        ensures { λ r. ⌜ (r .core ≡ self) × (runAnswerOf (r .answer) ≡ ran (used .0) (finished .0) (endOf (self .stop) (dueOne self))) ⌝ }
+    {
+        let stop = self.stop;
+        let end = end_of(stop, self.one_due());
+        RunReply {
+            core: self,
+            answer: RunAnswer::Ran {
+                cycles: used,
+                instructions: finished,
+                end: end,
+            },
+        }
+    }
+
+    fn run_refused(self, why: Refusal) -> RunReply
+        ensures { λ r. ⌜ (r .core ≡ self) × (runAnswerOf (r .answer) ≡ refused (refusalNumber why)) ⌝ }
+    {
+        let answer = RunAnswer::Refused(why);
+        RunReply {
+            core: self,
+            answer: answer,
+        }
+    }
+
+    // What a view answers, and what it shows.
+    fn viewed(self, answer: ViewAnswer, seen: Core) -> ViewReply
+        ensures { λ r. ⌜ (r .core ≡ self) × (r .answer ≡ answer) × (r .snapshot ≡ shown seen) ⌝ }
+    {
+        let snapshot = seen.snapshot();
+        ViewReply {
+            core: self,
+            answer: answer,
+            snapshot: snapshot,
+        }
+    }
+
+    // A fresh core for this one.
+    pub fn reset(mut self) -> Core
+        ensures { λ r. ⌜ resetGave r ≡ reset self ⌝ }
+    {
+        self = fresh();
+        self
+    }
+
+    // A listing, checked and stored.
+    pub fn load(self, text: &[u8], memory: &mut [u16]) -> LoadReply
+        ensures { λ r. ⌜ loadGave r (now (memory .exit)) ≡ load (now (text .entry)) self (now (memory .entry)) ⌝ }
+    {
+        let verdict = load_verdict(memory.len(), self.one_due());
+        if let Verdict::Refused(why) = verdict {
+            return LoadReply {
+                core: self,
+                answer: LoadAnswer::Refused(why),
+            };
+        }
+        LoadReply {
+            core: self,
+            answer: load_answer(listing::store(text, memory)),
+        }
+    }
+
+    // b datapath cycles, fewer if the core stops.
+    pub fn run(mut self, b: u32, memory: &mut [u16]) -> RunReply
+        ensures { λ r. ⌜ runGave r (now (memory .exit)) ≡ run b self (now (memory .entry)) ⌝ }
+    {
+        let stop = self.stop;
+        let clock = self.clock;
+        let verdict = run_verdict(memory.len(), stop, self.due_in_range(), clock, b);
+        if let Verdict::Refused(why) = verdict {
+            return self.run_refused(why);
+        }
+        let mut used: u32 = 0;
+        let mut finished: u32 = 0;
+        while used < b {
+            let stop = self.stop;
+            if !is_going(stop) {
+                return self.ran(Cycles(used), Instructions(finished));
+            }
+            let turn = self.cycle(memory);
+            let store = turn.store;
+            apply(store, memory);
+            finished += count_of(turn.finished);
+            used += 1;
+            let next = turn.core;
+            self = next;
+        }
+        self.ran(Cycles(used), Instructions(finished))
+    }
+
+    // One instruction by the instruction engine; the hidden registers become zero.
+    pub fn step(mut self, memory: &mut [u16]) -> RunReply
+        ensures { λ r. ⌜ runGave r (now (memory .exit)) ≡ step self (now (memory .entry)) ⌝ }
+    {
+        let stop = self.stop;
+        let clock = self.clock;
+        let verdict = run_verdict(memory.len(), stop, self.one_due(), clock, 4);
+        if let Verdict::Refused(why) = verdict {
+            return self.run_refused(why);
+        }
+        let executed = self.instruction(memory);
+        let store = executed.store;
+        apply(store, memory);
+        let next = executed.core;
+        self = next;
+        let used = self.clock.0 - clock.0;
+        self.ran(Cycles(used), Instructions(1))
+    }
+
+    // All but the hidden registers; where it is refused, the snapshot is that of a fresh core.
+    pub fn view(self) -> ViewReply
+        ensures reply { λ r. ⌜ viewGave r ≡ view self ⌝ }
+        ensures snapshot { λ r. ⌜ r .snapshot ≡ shown (cond (dueOne self) self freshCore) ⌝ }
+    {
+        let verdict = view_verdict(self.one_due());
+        let other = fresh();
+        if let Verdict::Refused(why) = verdict {
+            return self.viewed(ViewAnswer::Refused(why), other);
+        }
+        self.viewed(ViewAnswer::Viewed, self)
     }
 }

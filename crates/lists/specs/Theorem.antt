@@ -1,5 +1,16 @@
 -- Demand 3: a core and the instruction machine agree on every list of calls. One statement, `EveryList`, proved in
 -- proofs/Theorem.antt.
+--
+-- Why it speaks of the code. `playCore` plays `reset`, `load`, `run`, `step` and `view` of `core` specs/Calls.antt, and in `core`
+-- src/lib.rt the contract of each call is an equation with that very definition, for every core, lent memory and argument, refused
+-- calls too: `loadGave r M′ ≡ load text self M`, `runGave r M′ ≡ run b self M`, `runGave r M′ ≡ step self M`, where r is what the call gives back
+-- and M and M′ are the lent memory before and after. Reset and view are lent none and cannot change it: `resetGave r ≡ reset self`,
+-- `viewGave r ≡ view self`, as functions of the memory there is. (View has a second promise, on what a refused one shows.) The left-hand
+-- sides, of `core` specs/Answers.antt, read r and M′ as a reply: answer, next core, memory; different answers are read differently. And
+-- `fresh()` is `freshCore`. So calls made one after the other from a fresh core, each on the core that the last one gave back and on
+-- the memory as it left it, have the answers, the core and the memory of `playCore`: by these equations, one for each call of the list.
+-- The code's numbers of 8 to 64 bits are among the natural numbers, for all of which the theorem holds. Of cores and memories that
+-- the caller changes between calls only the contracts speak.
 use mathlib.Core.Path.{_≡_}
 use mathlib.Core.List.{List, [], _∷_, _++_}
 use Prim.Native.Nat.{ℕ, _+_, _≤_}
@@ -17,7 +28,7 @@ pub data Call : Type 0 where
   step : Call
   view : Call
 
--- on a core, by the definitions of `core`, which the contracts of the calls are to cite
+-- on a core, by the definitions that the contracts of the calls cite
 abbrev pub onCore : Call → Core → List ℕ → core.Reply
 onCore reset c M = core.reset c M
 onCore (load text) c M = core.load text c M
@@ -82,7 +93,8 @@ pub record Agree (c : CorePlay) (m : MachinePlay) : Type 0 where
   pub total : c .core .clock .0 ≡ cyclesOf (m .log) + m .machine .spent
 
 -- for every memory, of any length (those of 1 to 65,536 words among them) and whatever is in it, and every list of calls, from a
--- fresh core and a fresh machine (proved as `every-list`)
+-- fresh core and a fresh machine (proved as `every-list`). The memory is compared 'at every moment': the first calls of a list are a
+-- list, and the first i cycles of a run are a run of i
 abbrev pub EveryList : Type 0
 EveryList =
     (memory : List ℕ) (calls : List Call)

@@ -1,0 +1,189 @@
+-- `core::Core::run` meets its contract: what is left of the cycles, from the core and memory reached, gives what all give. Assumes nothing.
+use mathlib.Core.Path.{_≡_, refl, sym, ap, _∙_}
+use mathlib.Core.Bool.{Bool, not}
+use borrow.Author.Needs.{needs}
+use native.Mathlib.Omega.{arith}
+use mathlib.Core.List.{List}
+use Prim.Native.Nat.{ℕ, _+_, _-_, _≤_}
+use lib.ListN.{length}
+use Rattle.core.specs.Numbers.{runNumber}
+use Rattle.core.specs.Calls.{Reply, Progress, cyclesOn, ranReply, run}
+use Rattle.core.specs.Answers.{verdictNumber}
+use Rattle.core.specs.declared.Core.{Core}
+use Rattle.core.specs.declared.Turn.{Turn}
+use Rattle.core.proofs.Taken.{not-false}
+use Rattle.core.proofs.Cycles.{none-more}
+use Rattle.core.proofs.Endings.{cycle-ticks}
+use Rattle.core.proofs.Replies.{refused-reply, ready-when, room-when, due-when, run-starts, one-turn, run-over, bit-small, applied-length, not-true}
+use Rattle.core.proofs.Core.run.Statement.{statement}
+use Rattle.core.proofs.Core.run.Tie as tie
+
+-- a run of b cycles under way: the cycles left give the reply of the whole
+record Reached (reply : Reply) (before : List ℕ) (b : ℕ) (p : Progress) : Type 0 where
+  left : reply ≡ ranReply (cyclesOn (b - p .used) p)
+  size : length (p .memory) ≡ length before
+  few : p .finished ≤ p .used
+  within : p .used ≤ b
+  room : p .core .clock .0 + (b - p .used) ≤ 4294967295
+  low : 1 ≤ p .core .due
+  high : p .core .due ≤ 4
+
+abbrev progress : Core → List ℕ → ℕ → ℕ → Progress
+progress core memory used finished = record { core = core; memory = memory; used = used; finished = finished }
+
+abbrev Inv-loop : tie.InvT-loop
+Inv-loop self₀ b memory₀ used₀ finished₀ self memory used finished =
+    Reached (run b self₀ memory₀) memory₀ b (progress self memory used finished)
+
+abbrev μ-loop : tie.MeasureT-loop
+μ-loop self₀ b memory₀ used₀ finished₀ self memory used finished = b - used
+
+due-in-range-requires : tie.Need-due-in-range-requires Inv-loop μ-loop
+due-in-range-requires c κs = search needs
+
+run-verdict-requires : tie.Need-run-verdict-requires Inv-loop μ-loop
+run-verdict-requires c κs = search needs
+
+enum-known-verdict : tie.Need-enum-known-verdict Inv-loop μ-loop
+enum-known-verdict c = search needs
+
+run-refused-requires : tie.Need-run-refused-requires Inv-loop μ-loop
+run-refused-requires c κs = search needs
+
+returns : tie.Need-returns Inv-loop μ-loop
+unfolding run
+returns c =
+    let a = c .before .before .before .before .before .before .before .before .args in
+    let at : Bool → ℕ = λ ready. runNumber (length (a .memory .now)) (a .self .stop) ready (a .self .clock .0) (a .b) in
+    let verdict = c .before .before .before .before in
+    let number = verdict .run-verdict .ensures ∙ ap at (verdict .before .due-in-range .ensures) in
+    let refused = c .run-refused .ensures in
+    let why = c .before .before .verdict .given in
+    (λ j. record { answer = refused .1 j; core = refused .0 j; memory = a .memory .now })
+    ∙ refused-reply _ (why .0 .0) (a .self) (a .memory .now) _ (sym (ap verdictNumber (why .1)) ∙ number)
+
+enum-told : tie.Need-enum-told Inv-loop μ-loop
+enum-told c = search needs
+
+loop-holds : tie.Need-loop-holds Inv-loop μ-loop
+loop-holds c =
+    let a = c .before .before .before .before .before .before .args in
+    let at : Bool → ℕ = λ ready. runNumber (length (a .memory .now)) (a .self .stop) ready (a .self .clock .0) (a .b) in
+    let verdict = c .before .before in
+    let number = verdict .run-verdict .ensures ∙ ap at (verdict .before .due-in-range .ensures) in
+    let none = sym number ∙ ap verdictNumber (c .enum-told .given .1) in
+    let due = due-when (a .self) (ready-when _ _ _ _ _ none) in
+    record {
+      left = run-starts (a .b) (a .self) (a .memory .now) none;
+      size = refl;
+      few = omega arith;
+      within = omega arith;
+      room = omega (arith, room-when _ _ _ _ _ none);
+      low = due .0;
+      high = due .1;
+    }
+
+is-going-requires : tie.Need-is-going-requires Inv-loop μ-loop
+is-going-requires c κs = search needs
+
+ran-requires : tie.Need-ran-requires Inv-loop μ-loop
+ran-requires c κs = search needs
+
+same-length : tie.Need-same-length Inv-loop μ-loop
+same-length c = c .before .before .before .before .loop .inv .size
+
+returns-2 : tie.Need-returns-2 Inv-loop μ-loop
+returns-2 c =
+    let l = c .before .before .before .before .loop in
+    let going = ap not (sym (c .before .before .is-going .ensures)) ∙ c .before .if1 .taken in
+    let stopped = none-more _ (progress (l .self) (l .memory) (l .used) (l .finished)) (not-true _ going) in
+    let ended = c .ran .ensures in
+    (λ j. record { answer = ended .1 j; core = ended .0 j; memory = l .memory }) ∙ sym (l .inv .left ∙ ap ranReply stopped)
+
+cycle-requires : tie.Need-cycle-requires Inv-loop μ-loop
+cycle-requires c κs =
+    let l = c .before .before .before in
+    omega (arith, l .before .loop .inv .room, l .loop-test .taken)
+
+apply-requires : tie.Need-apply-requires Inv-loop μ-loop
+apply-requires c κs = search needs
+
+count-of-requires : tie.Need-count-of-requires Inv-loop μ-loop
+count-of-requires c κs = search needs
+
+add-finished : tie.Need-add-finished Inv-loop μ-loop
+add-finished c =
+    let turn = c .before .before .before .before .before .cycle .result in
+    let l = c .before .before .before .before .before .before .before .before .before in
+    omega (arith, c .count-of .ensures, bit-small (turn .finished), l .before .loop .inv .few, l .loop-test .taken)
+
+add-used : tie.Need-add-used Inv-loop μ-loop
+add-used c = omega (arith, c .before .before .before .before .before .before .before .before .before .loop-test .taken)
+
+loop-less : tie.Need-loop-less Inv-loop μ-loop
+loop-less c = omega (arith, c .before .before .before .before .before .before .before .before .before .before .loop-test .taken)
+
+loop-again : tie.Need-loop-again Inv-loop μ-loop
+loop-again c =
+    let turn = c .before .before .before .before .before .before in
+    let test = turn .before .before .before in
+    let l = test .before .before .loop in
+    let below = test .before .loop-test .taken in
+    let going = ap not (sym (test .is-going .ensures)) ∙ turn .before .before .if1 .left in
+    let cycled = turn .cycle .ensures in
+    let memory = c .before .before .before .before .apply .ensures in
+    let count = c .before .count-of .ensures in
+    let p = progress (l .self) (l .memory) (l .used) (l .finished) in
+    let ticks = cycle-ticks (l .memory) (l .self) (l .inv .low) (l .inv .high) in
+    let clock = ap (λ (x : Turn). x .core .clock .0) cycled in
+    let due = ap (λ (x : Turn). x .core .due) cycled in
+    record {
+      left = l .inv .left ∙ ap ranReply (one-turn _ p _ _ _ below (not-false _ going) cycled memory count);
+      size = ap length memory ∙ applied-length (turn .cycle .result .store) (l .memory) ∙ l .inv .size;
+      few = omega (arith, count, bit-small (turn .cycle .result .finished), l .inv .few);
+      within = omega (arith, below);
+      room = omega (arith, below, clock, ticks .clock, l .inv .room);
+      low = omega (arith, due, ticks .low);
+      high = omega (arith, due, ticks .high);
+    }
+
+ran-requires-2 : tie.Need-ran-requires-2 Inv-loop μ-loop
+ran-requires-2 c κs = search needs
+
+same-length-2 : tie.Need-same-length-2 Inv-loop μ-loop
+same-length-2 c = c .before .before .loop .inv .size
+
+returns-3 : tie.Need-returns-3 Inv-loop μ-loop
+returns-3 c =
+    let l = c .before .before .loop in
+    let over = run-over _ (progress (l .self) (l .memory) (l .used) (l .finished)) (c .before .loop-test .left) in
+    let ended = c .ran2 .ensures in
+    (λ j. record { answer = ended .1 j; core = ended .0 j; memory = l .memory }) ∙ sym (l .inv .left ∙ ap ranReply over)
+
+pub run-spec : {M : Type 1} → statement M
+run-spec =
+    tie.close
+    (tie.spec
+    Inv-loop
+    μ-loop
+    due-in-range-requires
+    run-verdict-requires
+    enum-known-verdict
+    run-refused-requires
+    returns
+    enum-told
+    loop-holds
+    is-going-requires
+    ran-requires
+    same-length
+    returns-2
+    cycle-requires
+    apply-requires
+    count-of-requires
+    add-finished
+    add-used
+    loop-less
+    loop-again
+    ran-requires-2
+    same-length-2
+    returns-3)

@@ -1,0 +1,72 @@
+-- `core::Core::view` meets its contract: by its verdict. Assumes nothing.
+use mathlib.Core.Path.{sym, ap, _∙_}
+use mathlib.Core.Bool.{Bool, cond}
+use borrow.Author.Needs.{needs}
+use Rattle.core.specs.State.{freshCore}
+use Rattle.core.specs.Numbers.{viewNumber}
+use Rattle.core.specs.Calls.{viewedReply, view}
+use Rattle.core.specs.Answers.{verdictNumber, viewAnswerOf, shown}
+use Rattle.core.proofs.Replies.{refused-reply, view-taken, one-when, other-when}
+use Rattle.core.proofs.Core.view.Statement.{statement}
+use Rattle.core.proofs.Core.view.Tie as tie
+
+one-due-requires : tie.Need-one-due-requires
+one-due-requires c κs = search needs
+
+view-verdict-requires : tie.Need-view-verdict-requires
+view-verdict-requires c κs = search needs
+
+fresh-requires : tie.Need-fresh-requires
+fresh-requires c κs = search needs
+
+enum-known-verdict : tie.Need-enum-known-verdict
+enum-known-verdict c = search needs
+
+viewed-requires : tie.Need-viewed-requires
+viewed-requires c κs = search needs
+
+returns : tie.Need-returns
+unfolding view
+returns c =
+    let self = c .before .before .before .before .before .before .before .args .self in
+    let verdict = c .before .before .before .before .before in
+    let number = verdict .view-verdict .ensures ∙ ap viewNumber (verdict .before .one-due .ensures) in
+    let why = c .before .before .verdict .given in
+    let refused = sym (ap verdictNumber (why .1)) ∙ number in
+    let other = other-when _ (why .0 .0) refused in
+    let r = c .viewed .ensures in (
+      (λ j memory. record { answer = viewAnswerOf (r .1 j) (r .2 j); core = r .0 j; memory = memory })
+          ∙ (λ j memory. refused-reply _ (why .0 .0) self memory (viewedReply self memory) refused j),
+      r .2 ∙ ap shown (c .before .before .before .before .fresh .ensures) ∙ ap (λ (b : Bool). shown (cond b self freshCore)) (sym other),
+    )
+
+enum-told : tie.Need-enum-told
+enum-told c = search needs
+
+viewed-requires-2 : tie.Need-viewed-requires-2
+viewed-requires-2 c κs = search needs
+
+returns-2 : tie.Need-returns-2
+returns-2 c =
+    let self = c .before .before .before .before .before .before .args .self in
+    let verdict = c .before .before .before .before in
+    let number = verdict .view-verdict .ensures ∙ ap viewNumber (verdict .before .one-due .ensures) in
+    let one = one-when _ (sym number ∙ ap verdictNumber (c .before .enum-told .given .1)) in
+    let r = c .viewed2 .ensures in (
+      (λ j memory. record { answer = viewAnswerOf (r .1 j) (r .2 j); core = r .0 j; memory = memory }) ∙ view-taken self one,
+      r .2 ∙ ap (λ (b : Bool). shown (cond b self freshCore)) (sym one),
+    )
+
+pub view-spec : {M : Type 1} → statement M
+view-spec =
+    tie.close
+    (tie.spec
+    one-due-requires
+    view-verdict-requires
+    fresh-requires
+    enum-known-verdict
+    viewed-requires
+    returns
+    enum-told
+    viewed-requires-2
+    returns-2)

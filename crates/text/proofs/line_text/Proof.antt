@@ -1,0 +1,91 @@
+-- `text::line_text` meets its contract: byte by byte. Assumes nothing.
+use mathlib.Core.Path.{_≡_, ap, _∙_}
+use mathlib.Core.Bool.{cond}
+use mathlib.Core.List.{[], _∷_}
+use Prim.Native.Nat.{ℕ, _+_, _%_}
+use native.Mathlib.Omega.{arith}
+use borrow.Author.Needs.{needs}
+use lib.Dec.{ltb}
+use Rattle.text.proofs.line_text.Statement.{statement}
+use Rattle.text.proofs.line_text.Tie as tie
+
+digit-requires : tie.Need-digit-requires
+digit-requires c κs = search needs
+
+digit-requires-2 : tie.Need-digit-requires-2
+digit-requires-2 c κs = search needs
+
+digit-requires-3 : tie.Need-digit-requires-3
+digit-requires-3 c κs = search needs
+
+digit-requires-4 : tie.Need-digit-requires-4
+digit-requires-4 c κs = search needs
+
+digit-requires-5 : tie.Need-digit-requires-5
+digit-requires-5 c κs = search needs
+
+digit-requires-6 : tie.Need-digit-requires-6
+digit-requires-6 c κs = search needs
+
+digit-requires-7 : tie.Need-digit-requires-7
+digit-requires-7 c κs = search needs
+
+digit-requires-8 : tie.Need-digit-requires-8
+digit-requires-8 c κs = search needs
+
+cast-digit : tie.Need-cast-digit
+cast-digit c = search needs
+
+digit-requires-9 : tie.Need-digit-requires-9
+digit-requires-9 c κs = search needs
+
+bit-requires : tie.Need-bit-requires
+bit-requires c κs = search needs
+
+bit-requires-2 : tie.Need-bit-requires-2
+bit-requires-2 c κs = search needs
+
+bit-requires-3 : tie.Need-bit-requires-3
+bit-requires-3 c κs = search needs
+
+bit-requires-4 : tie.Need-bit-requires-4
+bit-requires-4 c κs = search needs
+
+returns : tie.Need-returns
+returns c =
+    let n = c .before .before .before .before .before .before .before .before .before .before .before .before .before .before .args .cycles .0 in
+    let same : n % 16 % 16 ≡ n % 16 = omega arith in
+    let a1 = c .before .before .before .before .before .before .before .before .before .before .before .before .before .digit .ensures in
+    let a2 = c .before .before .before .before .before .before .before .before .before .before .before .before .digit2 .ensures in
+    let a3 = c .before .before .before .before .before .before .before .before .before .before .before .digit3 .ensures in
+    let a4 = c .before .before .before .before .before .before .before .before .before .before .digit4 .ensures in
+    let w1 = c .before .before .before .before .before .before .before .before .before .digit5 .ensures in
+    let w2 = c .before .before .before .before .before .before .before .before .digit6 .ensures in
+    let w3 = c .before .before .before .before .before .before .before .digit7 .ensures in
+    let w4 = c .before .before .before .before .before .before .digit8 .ensures in
+    let cycles = c .before .before .before .before .digit9 .ensures ∙ ap (λ (m : ℕ). cond (ltb m 10) (48 + m) (55 + m)) same in
+    let f1 = c .before .before .before .bit .ensures in
+    let f2 = c .before .before .bit2 .ensures in
+    let f3 = c .before .bit3 .ensures in
+    let f4 = c .bit4 .ensures in
+    λ j. a1 j ∷ a2 j ∷ a3 j ∷ a4 j ∷ 32 ∷ w1 j ∷ w2 j ∷ w3 j ∷ w4 j ∷ 32 ∷ cycles j ∷ 32 ∷ f1 j ∷ f2 j ∷ f3 j ∷ f4 j ∷ 10 ∷ []
+
+pub line-text-spec : {M : Type 1} → statement M
+line-text-spec =
+    tie.close
+    (tie.spec
+    digit-requires
+    digit-requires-2
+    digit-requires-3
+    digit-requires-4
+    digit-requires-5
+    digit-requires-6
+    digit-requires-7
+    digit-requires-8
+    cast-digit
+    digit-requires-9
+    bit-requires
+    bit-requires-2
+    bit-requires-3
+    bit-requires-4
+    returns)

@@ -1,0 +1,2 @@
+-- How words, flags, end letters and numbers are written.
+pub mod Text

@@ -1,0 +1,34 @@
+-- Document 01: 'Words and addresses are .. written as four hexadecimal digits', 'NZCV is written as four bits', and the lines of `r8trace`:
+-- 'address, word, cycles, NZCV after', as its example has them. Texts are lists of bytes in ASCII.
+use mathlib.Core.Bool.{Bool, true, false, cond}
+use mathlib.Core.List.{List, [], _∷_, _++_}
+use Prim.Native.Nat.{ℕ, _+_, _/_, _%_}
+use lib.Dec.{ltb}
+use Rattle.isa.specs.declared.Flags.{Flags}
+use Rattle.core.specs.declared.End.{End}
+use Rattle.core.specs.declared.End.the-variants.{H, U, B, M}
+
+-- the last hexadecimal digit of a number: `0` is 48, `A` is 65
+abbrev pub hexDigit : ℕ → ℕ
+hexDigit n = cond (ltb (n % 16) 10) (48 + n % 16) (55 + n % 16)
+
+abbrev pub wordText : ℕ → List ℕ
+wordText w = hexDigit (w / 4096) ∷ hexDigit (w / 256) ∷ hexDigit (w / 16) ∷ hexDigit w ∷ []
+
+abbrev pub bitText : Bool → ℕ
+bitText true = 49
+bitText false = 48
+
+abbrev pub flagsText : Flags → List ℕ
+flagsText f = bitText (f .n) ∷ bitText (f .z) ∷ bitText (f .c) ∷ bitText (f .v) ∷ []
+
+-- a line ends with LF, 10; a space is 32; a number of cycles, 2 to 4, is one digit
+abbrev pub lineText : ℕ → ℕ → ℕ → Flags → List ℕ
+lineText address word cycles flags =
+    wordText address ++ (32 ∷ wordText word) ++ (32 ∷ hexDigit cycles ∷ 32 ∷ flagsText flags) ++ (10 ∷ [])
+
+abbrev pub letterText : End → ℕ
+letterText H = 72
+letterText U = 85
+letterText B = 66
+letterText M = 77
