@@ -4,9 +4,9 @@ use mathlib.Core.Path.{_≡_, refl, sym, ap, _∙_}
 use mathlib.Core.Logic.{_↔_, _⊎_, inl, inr}
 use mathlib.Core.Bool.{Bool, true, false, not, cond}
 use mathlib.Core.List.{List, [], _∷_}
-use Prim.Native.Nat.{ℕ, suc, zero, _+_, _<_}
+use Prim.Native.Nat.{ℕ, suc, zero, _+_, _≤_, _<_}
 use native.Mathlib.Omega.{arith}
-use borrow.Author.Tests.{ltb-true, leb-true, leb-false, eqb-true, eqb-false, lt-ltb}
+use borrow.Author.Tests.{ltb-true, ltb-false, leb-true, leb-false, eqb-true, eqb-false, lt-ltb}
 use lib.Dec.{eqb, ltb, leb}
 use lib.ListN.{length}
 use Rattle.listing.specs.Answers as listing
@@ -72,6 +72,46 @@ pub none-applies : (n : ℕ) (applies : Bool) (rest : List (ℕ × Bool)) → fi
 unfolding firstNumber
 none-applies n true rest e = absurd (omega arith)
 none-applies n false rest e = (refl, e)
+
+pub not-false : (b : Bool) → not b ≡ false → b ≡ true
+not-false true e = refl
+not-false false e = absurd (clash refl e)
+
+pub not-true : (b : Bool) → not b ≡ true → b ≡ false
+not-true true e = absurd (clash e refl)
+not-true false e = refl
+
+-- a run that no number refuses, or a step with 4 for b
+pub record Ready (L : ℕ) (stop : Stop) (dueRight : Bool) (clock b : ℕ) : Type 0 where
+  pub size : wrongLength L ≡ false
+  pub going : isGoing stop ≡ true
+  pub due : dueRight ≡ true
+  pub room : clock + b ≤ 4294967295
+
+pub ready : (L : ℕ) (stop : Stop) (dueRight : Bool) (clock b : ℕ) → runNumber L stop dueRight clock b ≡ 0
+    → Ready L stop dueRight clock b
+unfolding runNumber
+ready L stop dueRight clock b e =
+    let size = none-applies 0 (wrongLength L) _ e in
+    let going = none-applies 7 (not (isGoing stop)) _ (size .1) in
+    let due = none-applies 6 (not dueRight) _ (going .1) in
+    let room = none-applies 8 (clockFull clock b) _ (due .1) in
+    record {
+      size = size .0;
+      going = not-false (isGoing stop) (going .0);
+      due = not-false dueRight (due .0);
+      room = ltb-false 4294967295 (clock + b) (room .0);
+    }
+
+in-range : (low high : Bool) → cond low high false ≡ true → (low ≡ true) × (high ≡ true)
+in-range true true e = (refl, refl)
+in-range true false e = absurd (clash e refl)
+in-range false high e = absurd (clash e refl)
+
+pub due-when : (core : Core) → dueInRange core ≡ true → (1 ≤ core .due) × (core .due ≤ 4)
+due-when core e =
+    let r = in-range (leb 1 (core .due)) (leb (core .due) 4) e in
+    (leb-true 1 (core .due) (r .0), leb-true (core .due) 4 (r .1))
 
 -- what the tests mean
 length-by : (L : ℕ) (zero long : Bool) → eqb L 0 ≡ zero → ltb 65536 L ≡ long → Means (cond zero true long) ((L ≡ 0) ⊎ (65536 < L))

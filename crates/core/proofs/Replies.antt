@@ -4,18 +4,16 @@ use mathlib.Core.Bool.{Bool, true, false, cond, not}
 use mathlib.Core.List.{List, [], _∷_}
 use Prim.Native.Nat.{ℕ, _+_, _-_, _≤_, _<_}
 use native.Mathlib.Omega.{arith}
-use borrow.Author.Tests.{ltb-false, leb-true}
-use lib.Dec.{leb, lit≤}
+use lib.Dec.{lit≤}
 use lib.ListN.{length, length-set}
 use Rattle.words.specs.Arithmetic.{bit}
 use Rattle.effects.specs.Effect.{applied}
-use Rattle.effects.specs.declared.Stop.{Stop}
 use Rattle.effects.specs.declared.Store.{Store}
 use Rattle.effects.specs.declared.Store.the-variants.{Nothing, Word}
 use Rattle.core.specs.State.{visibleOf}
 use Rattle.core.specs.Instruction.{costAt, instructed}
 use Rattle.core.specs.Datapath.{cycled}
-use Rattle.core.specs.Numbers.{wrongLength, isGoing, clockFull, firstNumber, runNumber, stepNumber, viewNumber}
+use Rattle.core.specs.Numbers.{isGoing, firstNumber, runNumber, stepNumber, viewNumber}
 use Rattle.core.specs.Calls.{refused, Reply, unless, dueOne, dueInRange, Progress, advanced, advancedBy, cyclesOn, starting, ranReply, steppedReply, viewedReply, run, step, view}
 use Rattle.core.specs.Answers.{refusalNumber}
 use Rattle.core.specs.declared.Core.{Core}
@@ -23,8 +21,8 @@ use Rattle.core.specs.declared.Turn.{Turn}
 use Rattle.core.specs.declared.Refusal.{Refusal}
 use Rattle.core.specs.declared.Refusal.the-variants.{WrongLength, WrongCycle, Stopped, ClockFull}
 use Rattle.core.proofs.Cycles.{one-more, no-cycle}
-use Rattle.core.proofs.Refusals.{none-applies, clash}
-use Rattle.core.proofs.Taken.{reply-own, in-range, not-false}
+use Rattle.core.proofs.Refusals.{none-applies, not-false}
+use Rattle.core.proofs.Taken.{reply-own}
 
 -- the first test of some that holds, the first that does not, and none
 pub found : (n : ℕ) (applies : Bool) (rest : List (ℕ × Bool)) → applies ≡ true → firstNumber ((n, applies) ∷ rest) ≡ n
@@ -53,43 +51,6 @@ refused-reply number why core memory reply e = by why ∙ ap (λ (n : ℕ). unle
     by Stopped = refl
     by ClockFull = refl
 
--- where a run's numbers come to none, or a step's
-pub going-when : (L : ℕ) (stop : Stop) (ready : Bool) (clock b : ℕ) → runNumber L stop ready clock b ≡ 0 → isGoing stop ≡ true
-unfolding runNumber
-going-when L stop ready clock b e =
-    not-false (isGoing stop) (none-applies 7 _ _ (none-applies 0 (wrongLength L) _ e .1) .0)
-
-pub ready-when : (L : ℕ) (stop : Stop) (ready : Bool) (clock b : ℕ) → runNumber L stop ready clock b ≡ 0 → ready ≡ true
-unfolding runNumber
-ready-when L stop ready clock b e =
-    let past = none-applies 7 (not (isGoing stop)) _ (none-applies 0 (wrongLength L) _ e .1) .1 in
-    not-false ready (none-applies 6 _ _ past .0)
-
-pub room-when : (L : ℕ) (stop : Stop) (ready : Bool) (clock b : ℕ) → runNumber L stop ready clock b ≡ 0 → clock + b ≤ 4294967295
-unfolding runNumber
-room-when L stop ready clock b e =
-    let past = none-applies 7 (not (isGoing stop)) _ (none-applies 0 (wrongLength L) _ e .1) .1 in
-    ltb-false 4294967295 (clock + b) (none-applies 8 (clockFull clock b) _ (none-applies 6 (not ready) _ past .1) .0)
-
-pub due-when : (core : Core) → dueInRange core ≡ true → (1 ≤ core .due) × (core .due ≤ 4)
-due-when core e =
-    let r = in-range (leb 1 (core .due)) (leb (core .due) 4) (ap not e) in
-    (leb-true 1 (core .due) (r .0), leb-true (core .due) 4 (r .1))
-
--- one turn of a run's loop: a cycle of a going core, its store made, and both counts
-pub one-turn : (b : ℕ) (p : Progress) (turn : Turn) (memory : List ℕ) (count : ℕ) → p .used < b → isGoing (p .core .stop) ≡ true
-    → turn ≡ cycled (p .memory) (p .core) → memory ≡ applied (turn .store) (p .memory) → count ≡ bit (turn .finished)
-    → cyclesOn (b - p .used) p
-    ≡ cyclesOn (b - (p .used + 1))
-    (record { core = turn .core; memory = memory; used = p .used + 1; finished = p .finished + count })
-unfolding advanced
-one-turn b p turn memory count below going t m f =
-    let left = b - (p .used + 1) in
-    let next : advanced p ≡ record { core = turn .core; memory = memory; used = p .used + 1; finished = p .finished + count } =
-    sym (ap (λ (x : Turn). advancedBy x p) t)
-    ∙ sym (λ j. record { core = turn .core; memory = m j; used = p .used + 1; finished = p .finished + f j }) in
-    ap (λ (n : ℕ). cyclesOn n p) (omega arith) ∙ one-more left p going ∙ ap (cyclesOn left) next
-
 -- where a run or a step starts: with its numbers passed the reply is the call's own
 pub run-starts : (b : ℕ) (core : Core) (memory : List ℕ)
     → runNumber (length memory) (core .stop) (dueInRange core) (core .clock .0) b ≡ 0
@@ -105,10 +66,31 @@ unfolding step stepNumber
 step-starts core memory e =
     reply-own _ core memory (steppedReply (costAt memory (visibleOf core)) (instructed memory core) memory) e
 
--- a run that has done its cycles, and one whose core has stopped
+-- an instruction moves the clock by its cost
+pub clock-of-instruction : (memory : List ℕ) (core : Core)
+    → instructed memory core .core .clock .0 ≡ core .clock .0 + costAt memory (visibleOf core)
+unfolding instructed
+clock-of-instruction memory core = refl
+
+-- one turn of a run's loop: a cycle of a going core, its store made, and both counts
+pub one-turn : (b : ℕ) (p : Progress) (turn : Turn) (memory : List ℕ) (count : ℕ) → p .used < b → isGoing (p .core .stop) ≡ true
+    → turn ≡ cycled (p .memory) (p .core) → memory ≡ applied (turn .store) (p .memory) → count ≡ bit (turn .finished)
+    → cyclesOn (b - p .used) p
+    ≡ cyclesOn (b - (p .used + 1))
+    (record { core = turn .core; memory = memory; used = p .used + 1; finished = p .finished + count })
+unfolding advanced
+one-turn b p turn memory count below going t m f =
+    let left = b - (p .used + 1) in
+    let next : advanced p ≡ record { core = turn .core; memory = memory; used = p .used + 1; finished = p .finished + count } =
+    sym (ap (λ (x : Turn). advancedBy x p) t)
+    ∙ sym (λ j. record { core = turn .core; memory = m j; used = p .used + 1; finished = p .finished + f j }) in
+    ap (λ (n : ℕ). cyclesOn n p) (omega arith) ∙ one-more left p going ∙ ap (cyclesOn left) next
+
+-- a run that has done its cycles
 pub run-over : (b : ℕ) (p : Progress) → b ≤ p .used → cyclesOn (b - p .used) p ≡ p
 run-over b p e = ap (λ (n : ℕ). cyclesOn n p) (omega arith) ∙ no-cycle p
 
+-- a count grows by 1 at most, and a store keeps the memory's length
 pub bit-small : (b : Bool) → bit b ≤ 1
 bit-small true = lit≤ tt
 bit-small false = lit≤ tt
@@ -116,12 +98,6 @@ bit-small false = lit≤ tt
 pub applied-length : (store : Store) (memory : List ℕ) → length (applied store memory) ≡ length memory
 applied-length Nothing memory = refl
 applied-length (Word address word) memory = length-set memory address word
-
-pub view-taken : (core : Core) → dueOne core ≡ true → viewedReply core ≡ view core
-unfolding view viewNumber
-view-taken core one =
-    let number = passed 7 (not (dueOne core)) [] (ap not one) ∙ none-left in
-    λ j memory. unless (sym number j) core memory (viewedReply core memory)
 
 -- what a view's number says of the cycle due
 pub one-when : (one : Bool) → viewNumber one ≡ 0 → one ≡ true
@@ -136,12 +112,9 @@ other-when true WrongCycle e = absurd (omega arith)
 other-when true Stopped e = absurd (omega arith)
 other-when true ClockFull e = absurd (omega arith)
 
--- an instruction moves the clock by its cost
-pub clock-of-instruction : (memory : List ℕ) (core : Core)
-    → instructed memory core .core .clock .0 ≡ core .clock .0 + costAt memory (visibleOf core)
-unfolding instructed
-clock-of-instruction memory core = refl
-
-pub not-true : (b : Bool) → not b ≡ true → b ≡ false
-not-true true e = absurd (clash e refl)
-not-true false e = refl
+-- a view that is taken
+pub view-taken : (core : Core) → dueOne core ≡ true → viewedReply core ≡ view core
+unfolding view viewNumber
+view-taken core one =
+    let number = passed 7 (not (dueOne core)) [] (ap not one) ∙ none-left in
+    λ j memory. unless (sym number j) core memory (viewedReply core memory)

@@ -1,36 +1,26 @@
 -- The theorems `RunTaken`, `StepTaken` and `OthersTaken` of specs/TheoremsOfCalls.antt: where no number applies the reply is the call's own.
 use mathlib.Core.Path.{_≡_, refl, sym, ap, _∙_}
-use mathlib.Core.Bool.{Bool, true, false, not, cond}
+use mathlib.Core.Bool.{true, not}
 use mathlib.Core.List.{List, []}
 use Prim.Native.Nat.{ℕ, _+_, _≤_}
 use native.Mathlib.Omega.{arith}
 use native.Mathlib.Nat.{zero-add, add-zero}
-use borrow.Author.Tests.{eq-eqb, eqb-true, leb-true, ltb-false, le-ltb}
-use lib.Dec.{leb}
+use borrow.Author.Tests.{eq-eqb, eqb-true, le-ltb}
 use lib.ListN.{length}
 use Rattle.effects.specs.declared.Stop.the-variants.{Going}
 use Rattle.core.specs.State.{visibleOf, between}
 use Rattle.core.specs.Instruction.{after, memoryAfter, costAt, instructed}
-use Rattle.core.specs.Numbers.{wrongLength, isGoing, clockFull, firstNumber, loadNumber, runNumber, stepNumber, viewNumber}
+use Rattle.core.specs.Numbers.{isGoing, firstNumber, loadNumber, runNumber, stepNumber, viewNumber}
 use Rattle.core.specs.Calls.{ran, viewed, cyclesOn, starting, endOf, dueOne, dueInRange, Reply, unless, loadAnswer, loadedReply, viewedReply, ranReply, steppedReply, reset, load, view, run, step}
 use Rattle.core.specs.TheoremsOfCalls.{Taken, loadNumbers, runNumbers, stepNumbers, viewNumbers, RunTaken, StepTaken, OthersTaken}
 use Rattle.core.specs.declared.Core.{Core}
 use Rattle.core.proofs.Cycles.{only-going, cost-range}
 use Rattle.core.proofs.OneInstruction.{one-instruction}
-use Rattle.core.proofs.Refusals.{none-found, none-applies, clash, load-found, run-found, step-found, view-found}
+use Rattle.core.proofs.Refusals.{none-found, none-applies, not-false, Ready, ready, due-when, load-found, run-found, step-found, view-found}
 use Rattle.core.proofs.Endings.{letter, budget, clock-moves}
 
 pub reply-own : (number : ℕ) (core : Core) (memory : List ℕ) (reply : Reply) → number ≡ 0 → unless number core memory reply ≡ reply
 reply-own number core memory reply e = rw (eq-eqb number 0 e)
-
-pub in-range : (low high : Bool) → not (cond low high false) ≡ false → (low ≡ true) × (high ≡ true)
-in-range true true e = (refl, refl)
-in-range true false e = absurd (clash refl e)
-in-range false high e = absurd (clash refl e)
-
-pub not-false : (b : Bool) → not b ≡ false → b ≡ true
-not-false true e = refl
-not-false false e = absurd (clash refl e)
 
 module _ (core : Core) (memory : List ℕ) (b : ℕ) (taken : Taken (runNumbers b core memory)) where
   no-run-number : runNumber (length memory) (core .stop) (dueInRange core) (core .clock .0) b ≡ 0
@@ -42,12 +32,7 @@ module _ (core : Core) (memory : List ℕ) (b : ℕ) (taken : Taken (runNumbers 
   run-own = reply-own _ core memory (ranReply (cyclesOn b (starting core memory))) no-run-number
 
   run-due : (1 ≤ core .due) × (core .due ≤ 4)
-  unfolding runNumber
-  run-due =
-      let past = none-applies 0 (wrongLength (length memory)) _ no-run-number .1 in
-      let past′ = none-applies 7 (not (isGoing (core .stop))) _ past .1 in
-      let r = in-range (leb 1 (core .due)) (leb (core .due) 4) (none-applies 6 (not (dueInRange core)) _ past′ .0) in
-      (leb-true 1 (core .due) (r .0), leb-true (core .due) 4 (r .1))
+  run-due = due-when core (ready _ _ _ _ _ no-run-number .due)
 
 pub run-taken : RunTaken
 run-taken core memory b taken =
@@ -75,25 +60,15 @@ module _ (core : Core) (memory : List ℕ) (taken : Taken (stepNumbers core memo
   unfolding step
   step-own = reply-own _ core memory (steppedReply (costAt memory (visibleOf core)) (instructed memory core) memory) no-step-number
 
-  record Ready : Type 0 where
-    size : wrongLength (length memory) ≡ false
-    going : core .stop ≡ Going
-    due : core .due ≡ 1
-    room : core .clock .0 + 4 ≤ 4294967295
+  step-ready : Ready (length memory) (core .stop) (dueOne core) (core .clock .0) 4
+  unfolding stepNumber
+  step-ready = ready _ _ _ _ _ no-step-number
 
-  step-ready : Ready
-  unfolding stepNumber runNumber
-  step-ready =
-      let size = none-applies 0 (wrongLength (length memory)) _ no-step-number in
-      let stop = none-applies 7 (not (isGoing (core .stop))) _ (size .1) in
-      let due = none-applies 6 (not (dueOne core)) _ (stop .1) in
-      let room = none-applies 8 (clockFull (core .clock .0) 4) _ (due .1) in
-      record {
-        size = size .0;
-        going = only-going (core .stop) (not-false (isGoing (core .stop)) (stop .0));
-        due = eqb-true (core .due) 1 (not-false (dueOne core) (due .0));
-        room = ltb-false 4294967295 (core .clock .0 + 4) (room .0);
-      }
+  step-going : core .stop ≡ Going
+  step-going = only-going (core .stop) (step-ready .going)
+
+  step-due : core .due ≡ 1
+  step-due = eqb-true (core .due) 1 (step-ready .due)
 
   no-run-number-of-cost :
       runNumber (length memory) (core .stop) (dueInRange core) (core .clock .0) (costAt memory (visibleOf core)) ≡ 0
@@ -103,7 +78,7 @@ module _ (core : Core) (memory : List ℕ) (taken : Taken (stepNumbers core memo
       let few = cost-range memory (visibleOf core) .1 in
       let room = r .room in
       let full = le-ltb 4294967295 (core .clock .0 + costAt memory (visibleOf core)) (omega arith) in
-      rw (full, r .size, r .going, r .due)
+      rw (full, r .size, step-going, step-due)
 
   run-of-cost : run (costAt memory (visibleOf core)) core memory
       ≡ ranReply (cyclesOn (costAt memory (visibleOf core)) (starting core memory))
@@ -114,8 +89,7 @@ pub step-taken : StepTaken
 unfolding instructed memoryAfter
 step-taken core memory taken =
     let v = visibleOf core in
-    let r = step-ready core memory taken in
-    let f = one-instruction (starting core memory) (r .going) (r .due) .1 in
+    let f = one-instruction (starting core memory) (step-going core memory taken) (step-due core memory taken) .1 in
     let q = cyclesOn (costAt memory v) (starting core memory) in
     let stepped = step-own core memory taken in
     let ranned = run-of-cost core memory taken in

@@ -11,10 +11,10 @@ use Rattle.core.specs.Calls.{Reply, Progress, cyclesOn, ranReply, run}
 use Rattle.core.specs.Answers.{verdictNumber}
 use Rattle.core.specs.declared.Core.{Core}
 use Rattle.core.specs.declared.Turn.{Turn}
-use Rattle.core.proofs.Taken.{not-false}
+use Rattle.core.proofs.Refusals.{not-false, not-true, ready, due-when}
 use Rattle.core.proofs.Cycles.{none-more}
 use Rattle.core.proofs.Endings.{cycle-ticks}
-use Rattle.core.proofs.Replies.{refused-reply, ready-when, room-when, due-when, run-starts, one-turn, run-over, bit-small, applied-length, not-true}
+use Rattle.core.proofs.Replies.{refused-reply, run-starts, one-turn, run-over, bit-small, applied-length}
 use Rattle.core.proofs.Core.run.Statement.{statement}
 use Rattle.core.proofs.Core.run.Tie as tie
 
@@ -72,13 +72,14 @@ loop-holds c =
     let verdict = c .before .before in
     let number = verdict .run-verdict .ensures ∙ ap at (verdict .before .due-in-range .ensures) in
     let none = sym number ∙ ap verdictNumber (c .enum-told .given .1) in
-    let due = due-when (a .self) (ready-when _ _ _ _ _ none) in
+    let ready = ready _ _ _ _ _ none in
+    let due = due-when (a .self) (ready .due) in
     record {
       left = run-starts (a .b) (a .self) (a .memory .now) none;
       size = refl;
       few = omega arith;
       within = omega arith;
-      room = omega (arith, room-when _ _ _ _ _ none);
+      room = omega (arith, ready .room);
       low = due .0;
       high = due .1;
     }

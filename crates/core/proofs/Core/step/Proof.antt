@@ -12,7 +12,8 @@ use Rattle.core.specs.Numbers.{runNumber, stepNumber}
 use Rattle.core.specs.Calls.{ran, step, endOf, dueOne}
 use Rattle.core.specs.Answers.{verdictNumber}
 use Rattle.core.specs.declared.Turn.{Turn}
-use Rattle.core.proofs.Replies.{refused-reply, room-when, step-starts, clock-of-instruction}
+use Rattle.core.proofs.Refusals.{ready}
+use Rattle.core.proofs.Replies.{refused-reply, step-starts, clock-of-instruction}
 use Rattle.core.proofs.Core.step.Statement.{statement}
 use Rattle.core.proofs.Core.step.Tie as tie
 
@@ -49,7 +50,7 @@ instruction-requires c κs =
     let at : Bool → ℕ = λ ready. runNumber (length (a .memory .now)) (a .self .stop) ready (a .self .clock .0) 4 in
     let verdict = c .before .before .before in
     let number = verdict .run-verdict .ensures ∙ ap at (verdict .before .one-due .ensures) in
-    omega (arith, room-when _ _ _ _ _ (sym number ∙ ap verdictNumber (c .before .enum-told .given .1)))
+    omega (arith, ready _ _ _ _ _ (sym number ∙ ap verdictNumber (c .before .enum-told .given .1)) .room)
 
 apply-requires : tie.Need-apply-requires
 apply-requires c κs = search needs
