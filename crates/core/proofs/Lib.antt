@@ -7,3 +7,4 @@ pub mod Refusals
 pub mod Endings
 pub mod Taken
 pub mod Replies
+pub mod Again

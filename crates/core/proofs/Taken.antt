@@ -23,7 +23,7 @@ pub reply-own : (number : ℕ) (core : Core) (memory : List ℕ) (reply : Reply)
 reply-own number core memory reply e = rw (eq-eqb number 0 e)
 
 module _ (core : Core) (memory : List ℕ) (b : ℕ) (taken : Taken (runNumbers b core memory)) where
-  no-run-number : runNumber (length memory) (core .stop) (dueInRange core) (core .clock .0) b ≡ 0
+  pub no-run-number : runNumber (length memory) (core .stop) (dueInRange core) (core .clock .0) b ≡ 0
   unfolding runNumber
   no-run-number = none-found _ (runNumbers b core memory) (λ n. run-found core memory n b) taken
 

@@ -19,7 +19,8 @@ use Rattle.core.specs.declared.RunReply.{RunReply}
 use Rattle.core.specs.declared.ViewReply.{ViewReply}
 use Rattle.core.specs.declared.Snapshot.{Snapshot}
 
--- '1: L is 0 or above 65,536. 7: cycle due is not 1, or outside 1 to 4. 8: stopped. 9: clock plus b .. exceeds 4,294,967,295'
+-- '1: L is 0 or above 65,536 ..', '7: cycle due is not 1 .., or outside 1 to 4 ..', '8: stopped ..', '9: clock plus b .. exceeds
+-- 4,294,967,295'
 abbrev pub refusalNumber : Refusal → ℕ
 refusalNumber refusal.WrongLength = 1
 refusalNumber refusal.WrongCycle = 7

@@ -1,5 +1,6 @@
 -- What the calls come to, for every core and memory: when a call is refused, and that it then changes nothing; what it does where it is
--- taken. Five statements, proved in proofs/Refusals.antt and proofs/Taken.antt.
+-- taken. Six statements, proved in proofs/Refusals.antt, proofs/Taken.antt and
+-- proofs/Again.antt.
 use mathlib.Core.Path.{_≡_}
 use mathlib.Core.Logic.{_↔_, _⊎_}
 use mathlib.Core.List.{List, [], _∷_}
@@ -100,6 +101,28 @@ RunTaken =
     × (used ≤ b)
     × (run b core memory .core .stop ≡ Going → used ≡ b)
     × (run b core memory .core .clock .0 ≡ core .clock .0 + used)
+
+-- a run can be cut at every cycle: a run of i + j is a run of i and, unless that stops the core, a run of j on from there, with the
+-- same core and memory; cycles and instructions add up (proved as `run-again`)
+abbrev pub RunAgain : Type 0
+RunAgain =
+    (core : Core) (memory : List ℕ) (i j : ℕ) → Taken (runNumbers (i + j) core memory)
+    → let first : Reply = run i core memory in
+    let second : Reply = run j (first .core) (first .memory) in
+    let whole : Reply = run (i + j) core memory in
+    (IsStopped (first .core) → whole ≡ first)
+    × (first .core .stop ≡ Going
+    → (used : ℕ)
+    × (finished : ℕ)
+    × (end : End)
+    × (more : ℕ)
+    × (others : ℕ)
+    × (last : End)
+    × (first .answer ≡ ran used finished end)
+    × (second .answer ≡ ran more others last)
+    × (whole .answer ≡ ran (used + more) (finished + others) last)
+    × (whole .core ≡ second .core)
+    × (whole .memory ≡ second .memory))
 
 -- a step that is taken answers its instruction's cost, 1 instruction finished and the letter of the core that it hands back; it is as a run
 -- of just that cost, but that the 'hidden registers become zero' (proved as `step-taken`)

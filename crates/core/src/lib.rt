@@ -617,22 +617,22 @@ impl Core {
         if let Verdict::Refused(why) = verdict {
             return self.run_refused(why);
         }
-        let mut used: u32 = 0;
-        let mut finished: u32 = 0;
-        while used < b {
+        let mut used = Cycles(0);
+        let mut finished = Instructions(0);
+        while used.0 < b {
             let stop = self.stop;
             if !is_going(stop) {
-                return self.ran(Cycles(used), Instructions(finished));
+                return self.ran(used, finished);
             }
             let turn = self.cycle(memory);
             let store = turn.store;
             apply(store, memory);
-            finished += count_of(turn.finished);
-            used += 1;
+            used.0 += 1;
+            finished.0 += count_of(turn.finished);
             let next = turn.core;
             self = next;
         }
-        self.ran(Cycles(used), Instructions(finished))
+        self.ran(used, finished)
     }
 
     // One instruction by the instruction engine; the hidden registers become zero.

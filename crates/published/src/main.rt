@@ -43,11 +43,13 @@ fn later_claims(address: u16) -> Claim {
         0x0032 => Claim(17, 0x0043),
         0x0043 => Claim(17, 0x0094),
         0x0106 => Claim(17, 0x0110),
+        0x0110 => Claim(1, 0x0000),
+        0x0111 => Claim(2, 0x0000),
+        0x0112 => Claim(3, 0x0000),
         0x0113 => Claim(4, 0x0000),
         0x0114 => Claim(17, 0x0128),
         0x0129 => Claim(1, 0x0190),
         0x012B => Claim(3, 0xBBAA),
-        0x012D => Claim(15, 0x01FF),
         0x0131 => Claim(2, 0xBAA3),
         0x0135 => Claim(4, 0xCBAA),
         0x0136 => Claim(1, 0xFFFF),
@@ -120,7 +122,11 @@ fn print_remark(address: u16, before: Flags, after: Flags) {
     }
     if address == 0x001B {
         print_flags(b"001B NZCV ", after);
-        print(b": Z is set, as 003 says\n");
+        if after.z {
+            print(b": Z is set, as 003 says\n");
+        } else {
+            print(b": Z is clear, where 003 says that it is set\n");
+        }
     }
 }
 
@@ -216,7 +222,10 @@ fn main() {
             let mut again = memory;
             print_run(loaded.core, &mut memory, &mut again);
         }
-        LoadAnswer::Faulty(_, offset) => print_number(b"load refused at ", offset as u64),
+        LoadAnswer::Faulty(_, offset) => {
+            print_number(b"load refused at ", offset as u64);
+            print(b"\n");
+        }
         LoadAnswer::Refused(_) => print(b"load refused\n"),
     }
 }

@@ -9,7 +9,7 @@ use core::LoadAnswer;
 use core::RunAnswer;
 use isa::Cycles;
 
-// A page with room at a place: one that is full is written out.
+// A place with room on the page; a full page is written out and begun anew.
 fn room(page: &[u8; 8192], at: usize) -> usize
     ensures { λ r. ⌜ r < 8192 ⌝ }
 {
@@ -56,7 +56,7 @@ fn put_number(page: &mut [u8; 8192], at: usize, n: u64) -> usize
     put(page, at, &digits[..count])
 }
 
-// The cycles that a step used; 0 where it was refused, as no step of an instruction that a run finished is.
+// The cycles that a step used. A refused step, which does not arise here, counts as 0.
 fn cycles_of(answer: RunAnswer) -> Cycles {
     match answer {
         RunAnswer::Ran {
@@ -68,7 +68,7 @@ fn cycles_of(answer: RunAnswer) -> Cycles {
     }
 }
 
-// The lines of as many instructions, one step each.
+// Puts the lines of so many instructions on the page, a step for each, and answers the place after them.
 fn put_lines(page: &mut [u8; 8192], mut core: Core, count: u32, memory: &mut [u16]) -> usize
     ensures { λ r. ⌜ r ≤ 8192 ⌝ }
 {
@@ -112,7 +112,7 @@ fn put_totals(
 
 // Writes the trace of a loaded core. The totals are the answer of one run of 1,000 cycles; the lines come from steps of the instructions
 // that it finished, from the same start. Neither is refused: the core is fresh, and the memory of a right length.
-fn write_trace(core: Core, memory: &mut [u16], again: &mut [u16]) {
+fn write_trace(core: Core, memory: &mut [u16], second: &mut [u16]) {
     let answer = core.run(1000, memory).answer;
     let RunAnswer::Ran {
         cycles,
@@ -123,7 +123,7 @@ fn write_trace(core: Core, memory: &mut [u16], again: &mut [u16]) {
         return;
     };
     let mut page = [0u8; 8192];
-    let lines = put_lines(&mut page, core, instructions.0, again);
+    let lines = put_lines(&mut page, core, instructions.0, second);
     let at = put_totals(&mut page, lines, cycles, instructions, end);
     write_page(&page, at);
 }
@@ -150,8 +150,8 @@ fn main() {
     let answer = loaded.answer;
     match answer {
         LoadAnswer::Stored(_) => {
-            let mut again = memory;
-            write_trace(loaded.core, &mut memory, &mut again);
+            let mut second = memory;
+            write_trace(loaded.core, &mut memory, &mut second);
         }
         LoadAnswer::Faulty(fault, offset) => write_refusal(
             text::fault_number(fault) as u64,

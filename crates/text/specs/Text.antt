@@ -1,5 +1,5 @@
--- Document 01: 'Words and addresses are .. written as four hexadecimal digits', 'NZCV is written as four bits', and the lines of `r8trace`:
--- 'address, word, cycles, NZCV after', as its example has them. Texts are lists of bytes in ASCII.
+-- Document 01: 'Words and addresses are .. written as four hexadecimal digits', 'NZCV is written as four bits', 'Every other figure is in
+-- base ten', and the lines of `r8trace`: 'address, word, cycles, NZCV after', as its example has them. Texts are lists of bytes in ASCII.
 use mathlib.Core.Bool.{Bool, true, false, cond}
 use mathlib.Core.List.{List, [], _∷_, _++_}
 use Prim.Native.Nat.{ℕ, _+_, _/_, _%_}
@@ -8,7 +8,7 @@ use Rattle.isa.specs.declared.Flags.{Flags}
 use Rattle.core.specs.declared.End.{End}
 use Rattle.core.specs.declared.End.the-variants.{H, U, B, M}
 
--- the last hexadecimal digit of a number: `0` is 48, `A` is 65
+-- the last hexadecimal digit of a number, in capitals as document 01's example has them: `0` is 48, `A` is 65
 abbrev pub hexDigit : ℕ → ℕ
 hexDigit n = cond (ltb (n % 16) 10) (48 + n % 16) (55 + n % 16)
 
@@ -22,10 +22,14 @@ bitText false = 48
 abbrev pub flagsText : Flags → List ℕ
 flagsText f = bitText (f .n) ∷ bitText (f .z) ∷ bitText (f .c) ∷ bitText (f .v) ∷ []
 
--- a line ends with LF, 10; a space is 32; a number of cycles, 2 to 4, is one digit
+-- the last digit of base ten: all of an instruction's cycles, which are 2 to 4
+abbrev pub lastDigit : ℕ → ℕ
+lastDigit n = 48 + n % 10
+
+-- a space is 32, and LF, which ends a line, 10
 abbrev pub lineText : ℕ → ℕ → ℕ → Flags → List ℕ
 lineText address word cycles flags =
-    wordText address ++ (32 ∷ wordText word) ++ (32 ∷ hexDigit cycles ∷ 32 ∷ flagsText flags) ++ (10 ∷ [])
+    wordText address ++ (32 ∷ wordText word) ++ (32 ∷ lastDigit cycles ∷ 32 ∷ flagsText flags) ++ (10 ∷ [])
 
 abbrev pub letterText : End → ℕ
 letterText H = 72

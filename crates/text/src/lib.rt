@@ -1,6 +1,6 @@
 // How words, flags, end letters and numbers are written.
 ghost use mathlib.Core.Path.{_≡_};
-ghost use Rattle.text.specs.Text.{hexDigit, bitText, wordText, flagsText, lineText, letterText};
+ghost use Rattle.text.specs.Text.{hexDigit, lastDigit, bitText, wordText, flagsText, lineText, letterText};
 ghost use Rattle.listing.specs.Answers.{faultNumber};
 ghost use Rattle.core.specs.Answers.{refusalNumber};
 use core::End;
@@ -15,6 +15,12 @@ fn digit(word: u16) -> u8
 {
     let d = (word % 16) as u8;
     if d < 10 { 48 + d } else { 55 + d }
+}
+
+fn last_digit(n: u32) -> u8
+    ensures { λ r. ⌜ r ≡ lastDigit n ⌝ }
+{
+    48 + (n % 10) as u8
 }
 
 fn bit(set: bool) -> u8
@@ -35,7 +41,7 @@ pub fn flags_text(flags: Flags) -> [u8; 4]
     [bit(flags.n), bit(flags.z), bit(flags.c), bit(flags.v)]
 }
 
-// The line of a finished instruction.
+// The line of a finished instruction. Its cycles, 2 to 4, are one digit; of a number above 9 it is the last.
 pub fn line_text(address: u16, word: u16, cycles: Cycles, flags: Flags) -> [u8; 17]
     ensures { λ r. ⌜ r ≡ lineText address word (cycles .0) flags ⌝ }
 {
@@ -50,7 +56,7 @@ pub fn line_text(address: u16, word: u16, cycles: Cycles, flags: Flags) -> [u8; 
         digit(word / 16),
         digit(word),
         b' ',
-        digit((cycles.0 % 16) as u16),
+        last_digit(cycles.0),
         b' ',
         bit(flags.n),
         bit(flags.z),

@@ -1,7 +1,5 @@
 -- `text::digit` meets its contract: by whether the digit is below 10. Assumes nothing.
-use mathlib.Core.Path.{sym, ap}
-use mathlib.Core.Bool.{Bool, cond}
-use Prim.Native.Nat.{_+_, _%_}
+use Prim.Native.Nat.{_%_}
 use borrow.Author.Tests.{lt-ltb, le-ltb}
 use borrow.Author.Needs.{needs}
 use Rattle.text.proofs.digit.Statement.{statement}
@@ -17,14 +15,10 @@ add-result-2 : tie.Need-add-result-2
 add-result-2 c = search needs
 
 returns : tie.Need-returns
-returns c =
-    let d = c .before .args .word % 16 in
-    sym (ap (λ (low : Bool). cond low (48 + d) (55 + d)) (lt-ltb d 10 (c .if1 .taken)))
+returns c = rw (lt-ltb (c .before .args .word % 16) 10 (c .if1 .taken))
 
 returns-2 : tie.Need-returns-2
-returns-2 c =
-    let d = c .before .args .word % 16 in
-    sym (ap (λ (low : Bool). cond low (48 + d) (55 + d)) (le-ltb d 10 (c .if1 .left)))
+returns-2 c = rw (le-ltb (c .before .args .word % 16) 10 (c .if1 .left))
 
 pub digit-spec : {M : Type 1} → statement M
 digit-spec = tie.close (tie.spec cast-d add-result add-result-2 returns returns-2)

@@ -1,11 +1,6 @@
 -- `text::line_text` meets its contract: byte by byte. Assumes nothing.
-use mathlib.Core.Path.{_≡_, ap, _∙_}
-use mathlib.Core.Bool.{cond}
 use mathlib.Core.List.{[], _∷_}
-use Prim.Native.Nat.{ℕ, _+_, _%_}
-use native.Mathlib.Omega.{arith}
 use borrow.Author.Needs.{needs}
-use lib.Dec.{ltb}
 use Rattle.text.proofs.line_text.Statement.{statement}
 use Rattle.text.proofs.line_text.Tie as tie
 
@@ -33,11 +28,8 @@ digit-requires-7 c κs = search needs
 digit-requires-8 : tie.Need-digit-requires-8
 digit-requires-8 c κs = search needs
 
-cast-digit : tie.Need-cast-digit
-cast-digit c = search needs
-
-digit-requires-9 : tie.Need-digit-requires-9
-digit-requires-9 c κs = search needs
+last-digit-requires : tie.Need-last-digit-requires
+last-digit-requires c κs = search needs
 
 bit-requires : tie.Need-bit-requires
 bit-requires c κs = search needs
@@ -53,17 +45,15 @@ bit-requires-4 c κs = search needs
 
 returns : tie.Need-returns
 returns c =
-    let n = c .before .before .before .before .before .before .before .before .before .before .before .before .before .before .args .cycles .0 in
-    let same : n % 16 % 16 ≡ n % 16 = omega arith in
-    let a1 = c .before .before .before .before .before .before .before .before .before .before .before .before .before .digit .ensures in
-    let a2 = c .before .before .before .before .before .before .before .before .before .before .before .before .digit2 .ensures in
-    let a3 = c .before .before .before .before .before .before .before .before .before .before .before .digit3 .ensures in
-    let a4 = c .before .before .before .before .before .before .before .before .before .before .digit4 .ensures in
-    let w1 = c .before .before .before .before .before .before .before .before .before .digit5 .ensures in
-    let w2 = c .before .before .before .before .before .before .before .before .digit6 .ensures in
-    let w3 = c .before .before .before .before .before .before .before .digit7 .ensures in
-    let w4 = c .before .before .before .before .before .before .digit8 .ensures in
-    let cycles = c .before .before .before .before .digit9 .ensures ∙ ap (λ (m : ℕ). cond (ltb m 10) (48 + m) (55 + m)) same in
+    let a1 = c .before .before .before .before .before .before .before .before .before .before .before .before .digit .ensures in
+    let a2 = c .before .before .before .before .before .before .before .before .before .before .before .digit2 .ensures in
+    let a3 = c .before .before .before .before .before .before .before .before .before .before .digit3 .ensures in
+    let a4 = c .before .before .before .before .before .before .before .before .before .digit4 .ensures in
+    let w1 = c .before .before .before .before .before .before .before .before .digit5 .ensures in
+    let w2 = c .before .before .before .before .before .before .before .digit6 .ensures in
+    let w3 = c .before .before .before .before .before .before .digit7 .ensures in
+    let w4 = c .before .before .before .before .before .digit8 .ensures in
+    let cycles = c .before .before .before .before .last-digit .ensures in
     let f1 = c .before .before .before .bit .ensures in
     let f2 = c .before .before .bit2 .ensures in
     let f3 = c .before .bit3 .ensures in
@@ -82,8 +72,7 @@ line-text-spec =
     digit-requires-6
     digit-requires-7
     digit-requires-8
-    cast-digit
-    digit-requires-9
+    last-digit-requires
     bit-requires
     bit-requires-2
     bit-requires-3

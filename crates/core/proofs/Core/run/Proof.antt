@@ -4,7 +4,7 @@ use mathlib.Core.Bool.{Bool, not}
 use borrow.Author.Needs.{needs}
 use native.Mathlib.Omega.{arith}
 use mathlib.Core.List.{List}
-use Prim.Native.Nat.{ℕ, _+_, _-_, _≤_}
+use Prim.Native.Nat.{ℕ, _+_, _-_, _≤_, _<_}
 use lib.ListN.{length}
 use Rattle.core.specs.Numbers.{runNumber}
 use Rattle.core.specs.Calls.{Reply, Progress, cyclesOn, ranReply, run}
@@ -33,10 +33,10 @@ progress core memory used finished = record { core = core; memory = memory; used
 
 abbrev Inv-loop : tie.InvT-loop
 Inv-loop self₀ b memory₀ used₀ finished₀ self memory used finished =
-    Reached (run b self₀ memory₀) memory₀ b (progress self memory used finished)
+    Reached (run b self₀ memory₀) memory₀ b (progress self memory (used .0) (finished .0))
 
 abbrev μ-loop : tie.MeasureT-loop
-μ-loop self₀ b memory₀ used₀ finished₀ self memory used finished = b - used
+μ-loop self₀ b memory₀ used₀ finished₀ self memory used finished = b - used .0
 
 due-in-range-requires : tie.Need-due-in-range-requires Inv-loop μ-loop
 due-in-range-requires c κs = search needs
@@ -91,50 +91,53 @@ ran-requires : tie.Need-ran-requires Inv-loop μ-loop
 ran-requires c κs = search needs
 
 same-length : tie.Need-same-length Inv-loop μ-loop
-same-length c = c .before .before .before .before .loop .inv .size
+same-length c = c .before .before .before .before .before .loop .inv .size
 
 returns-2 : tie.Need-returns-2 Inv-loop μ-loop
 returns-2 c =
-    let l = c .before .before .before .before .loop in
-    let going = ap not (sym (c .before .before .is-going .ensures)) ∙ c .before .if1 .taken in
-    let stopped = none-more _ (progress (l .self) (l .memory) (l .used) (l .finished)) (not-true _ going) in
+    let l = c .before .before .before .before .before .loop in
+    let going = ap not (sym (c .before .before .is-going .ensures)) ∙ c .before .if2 .taken in
+    let stopped = none-more _ (progress (l .self) (l .memory) (l .used .0) (l .finished .0)) (not-true _ going) in
     let ended = c .ran .ensures in
     (λ j. record { answer = ended .1 j; core = ended .0 j; memory = l .memory }) ∙ sym (l .inv .left ∙ ap ranReply stopped)
 
 cycle-requires : tie.Need-cycle-requires Inv-loop μ-loop
 cycle-requires c κs =
     let l = c .before .before .before in
-    omega (arith, l .before .loop .inv .room, l .loop-test .taken)
+    omega (arith, l .before .before .loop .inv .room, l .if1 .taken)
 
 apply-requires : tie.Need-apply-requires Inv-loop μ-loop
 apply-requires c κs = search needs
+
+add-used : tie.Need-add-used Inv-loop μ-loop
+add-used c =
+    let l = c .before .before .before .before .before .before .before .before .before in
+    let below : l .before .before .loop .used .0 < c .before .before .before .before .before .before .before .before .before .before .before .before .before .before .before .before .before .before .args .b = l .if1 .taken in
+    omega (arith, below)
 
 count-of-requires : tie.Need-count-of-requires Inv-loop μ-loop
 count-of-requires c κs = search needs
 
 add-finished : tie.Need-add-finished Inv-loop μ-loop
 add-finished c =
-    let turn = c .before .before .before .before .before .cycle .result in
-    let l = c .before .before .before .before .before .before .before .before .before in
-    omega (arith, c .count-of .ensures, bit-small (turn .finished), l .before .loop .inv .few, l .loop-test .taken)
-
-add-used : tie.Need-add-used Inv-loop μ-loop
-add-used c = omega (arith, c .before .before .before .before .before .before .before .before .before .loop-test .taken)
+    let turn = c .before .before .before .before .before .before .before .cycle .result in
+    let l = c .before .before .before .before .before .before .before .before .before .before .before in
+    omega (arith, c .before .count-of .ensures, bit-small (turn .finished), l .before .before .loop .inv .few, l .if1 .taken)
 
 loop-less : tie.Need-loop-less Inv-loop μ-loop
-loop-less c = omega (arith, c .before .before .before .before .before .before .before .before .before .before .loop-test .taken)
+loop-less c = omega (arith, c .before .before .before .before .before .before .before .before .before .before .before .before .if1 .taken)
 
 loop-again : tie.Need-loop-again Inv-loop μ-loop
 loop-again c =
-    let turn = c .before .before .before .before .before .before in
+    let turn = c .before .before .before .before .before .before .before .before in
     let test = turn .before .before .before in
-    let l = test .before .before .loop in
-    let below = test .before .loop-test .taken in
-    let going = ap not (sym (test .is-going .ensures)) ∙ turn .before .before .if1 .left in
+    let l = test .before .before .before .loop in
+    let below = test .before .if1 .taken in
+    let going = ap not (sym (test .is-going .ensures)) ∙ turn .before .before .if2 .left in
     let cycled = turn .cycle .ensures in
-    let memory = c .before .before .before .before .apply .ensures in
-    let count = c .before .count-of .ensures in
-    let p = progress (l .self) (l .memory) (l .used) (l .finished) in
+    let memory = c .before .before .before .before .before .before .apply .ensures in
+    let count = c .before .before .count-of .ensures in
+    let p = progress (l .self) (l .memory) (l .used .0) (l .finished .0) in
     let ticks = cycle-ticks (l .memory) (l .self) (l .inv .low) (l .inv .high) in
     let clock = ap (λ (x : Turn). x .core .clock .0) cycled in
     let due = ap (λ (x : Turn). x .core .due) cycled in
@@ -152,12 +155,12 @@ ran-requires-2 : tie.Need-ran-requires-2 Inv-loop μ-loop
 ran-requires-2 c κs = search needs
 
 same-length-2 : tie.Need-same-length-2 Inv-loop μ-loop
-same-length-2 c = c .before .before .loop .inv .size
+same-length-2 c = c .before .before .before .loop .inv .size
 
 returns-3 : tie.Need-returns-3 Inv-loop μ-loop
 returns-3 c =
-    let l = c .before .before .loop in
-    let over = run-over _ (progress (l .self) (l .memory) (l .used) (l .finished)) (c .before .loop-test .left) in
+    let l = c .before .before .before .loop in
+    let over = run-over _ (progress (l .self) (l .memory) (l .used .0) (l .finished .0)) (c .before .if1 .left) in
     let ended = c .ran2 .ensures in
     (λ j. record { answer = ended .1 j; core = ended .0 j; memory = l .memory }) ∙ sym (l .inv .left ∙ ap ranReply over)
 
@@ -180,9 +183,9 @@ run-spec =
     returns-2
     cycle-requires
     apply-requires
+    add-used
     count-of-requires
     add-finished
-    add-used
     loop-less
     loop-again
     ran-requires-2

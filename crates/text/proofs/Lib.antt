@@ -1,0 +1,2 @@
+-- The theorem about the texts.
+pub mod Theorems
