@@ -1,3 +1,4 @@
--- The instruction machine, and the theorem over every list of calls.
+-- The instruction machine, the theorem over every list of calls, and lists of calls given as data.
 pub mod Machine
 pub mod Theorem
+pub mod Replay

@@ -1,0 +1,80 @@
+-- Answers laid out as numbers, for lists of calls given as data and for other languages: 23 for each, the case first, then what it names,
+-- then zeros.
+use mathlib.Core.Bool.{cond}
+use mathlib.Core.List.{List, [], _∷_, _++_}
+use Prim.Native.Nat.{ℕ, _+_, _-_, _*_}
+use lib.Dec.{leb}
+use lib.ListN.{length, drop, replicate}
+use Rattle.words.specs.Arithmetic.{bit}
+use Rattle.isa.specs.declared.Flags.{Flags}
+use Rattle.effects.specs.declared.Stop.{Stop}
+use Rattle.effects.specs.declared.Stop.the-variants.{Going, Halted, Undefined}
+use Rattle.core.specs.State.{Visible, register}
+use Rattle.core.specs.Calls.{Answer, done, stored, ran, viewed, refused, refusedAt, Reply}
+use Rattle.core.specs.declared.Core.{Core}
+use Rattle.text.specs.Text.{letterText}
+use Rattle.layout.specs.declared.Numbered.{Numbered}
+
+abbrev pub answerSize : ℕ
+answerSize = 23
+
+abbrev pub padded : List ℕ → List ℕ
+padded numbers = numbers ++ replicate (answerSize - length numbers) 0
+
+abbrev pub flagsNumber : Flags → ℕ
+flagsNumber f = 8 * bit (f .n) + 4 * bit (f .z) + 2 * bit (f .c) + bit (f .v)
+
+abbrev pub stopNumber : Stop → ℕ
+stopNumber Going = 0
+stopNumber Halted = 1
+stopNumber Undefined = 2
+
+-- R0 to R15
+abbrev pub bankNumbers : List ℕ → List ℕ
+bankNumbers regs =
+    register regs 0
+    ∷ register regs 1
+    ∷ register regs 2
+    ∷ register regs 3
+    ∷ register regs 4
+    ∷ register regs 5
+    ∷ register regs 6
+    ∷ register regs 7
+    ∷ register regs 8
+    ∷ register regs 9
+    ∷ register regs 10
+    ∷ register regs 11
+    ∷ register regs 12
+    ∷ register regs 13
+    ∷ register regs 14
+    ∷ register regs 15
+    ∷ []
+
+-- the answers of document 01's calls, in the order of `Answer`; an end letter is its ASCII code
+unfoldable pub answerNumbers : Answer → List ℕ
+answerNumbers done = padded (0 ∷ [])
+answerNumbers (stored count) = padded (1 ∷ count ∷ [])
+answerNumbers (ran cycles instructions end) = padded (2 ∷ cycles ∷ instructions ∷ letterText end ∷ [])
+answerNumbers (viewed v due clock) =
+    padded
+    (3
+    ∷ (bankNumbers (v .regs)
+    ++ (v .pc ∷ v .sp ∷ flagsNumber (v .flags) ∷ stopNumber (v .stop) ∷ due ∷ clock ∷ [])))
+answerNumbers (refused number) = padded (4 ∷ number ∷ [])
+answerNumbers (refusedAt number offset) = padded (5 ∷ number ∷ offset ∷ [])
+
+-- numbers written over the front of a list; one that is too short for them stays
+abbrev pub written : List ℕ → List ℕ → List ℕ
+written numbers old = cond (leb (length numbers) (length old)) (numbers ++ drop (length numbers) old) old
+
+-- a call's reply with its answer as numbers; and what the code of a call gave back, with the memory as it then is
+pub record NumberedReply : Type 0 where
+  pub numbers : List ℕ
+  pub core : Core
+  pub memory : List ℕ
+
+abbrev pub numbered : Reply → NumberedReply
+numbered r = record { numbers = answerNumbers (r .answer); core = r .core; memory = r .memory }
+
+abbrev pub gave : Numbered → List ℕ → NumberedReply
+gave r memory = record { numbers = r .numbers; core = r .core; memory = memory }

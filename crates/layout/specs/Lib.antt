@@ -1,0 +1,2 @@
+-- How the answers of calls are laid out as numbers.
+pub mod Layout

@@ -1,0 +1,61 @@
+-- What a replay gives by its verdict: the core's play where it is played, which is the machine's by the theorem; else nothing changed.
+use mathlib.Core.Path.{_≡_, refl, sym, ap, subst, _∙_}
+use mathlib.Core.Bool.{Bool, true, false, cond}
+use mathlib.Core.List.{List}
+use Prim.Native.Nat.{ℕ, _*_, _≤_}
+use native.Mathlib.Omega.{arith}
+use borrow.Author.Tests.{leb-true, le-leb}
+use lib.Dec.{leb}
+use lib.ListN.{length}
+use Rattle.layout.specs.Layout.{written}
+use Rattle.lists.specs.Replay.{Reading, listed, noCall, noStretch, numbersOf, machineReplay, replayed, replayGave, verdictOf, Playable, corePlayed}
+use Rattle.lists.specs.declared.ReplayAnswer.{ReplayAnswer}
+use Rattle.lists.specs.declared.ReplayAnswer.the-variants.{Played, NoCall, NoStretch, NoRoom}
+use Rattle.lists.proofs.Theorem.{every-list}
+
+-- a verdict that the calls are played
+pub playable-when : (r : Reading) (room n : ℕ) → verdictOf r room ≡ Played n → Playable r room
+playable-when (listed calls) room n e = by (leb (23 * length calls) room) refl
+  where
+    by : (b : Bool) → leb (23 * length calls) room ≡ b → 23 * length calls ≤ room
+    by true t = leb-true _ _ t
+    by false t =
+        let f : NoRoom ≡ Played n = ap (λ (b : Bool). cond b (Played (length calls)) NoRoom) (sym t) ∙ e in
+        let z : _≡_ {A = ℕ} 0 1 = cc in
+        absurd (omega arith)
+playable-when (noCall i) room n e = let z : _≡_ {A = ℕ} 0 1 = cc in absurd (omega arith)
+playable-when (noStretch i) room n e = let z : _≡_ {A = ℕ} 0 1 = cc in absurd (omega arith)
+
+-- what a list that can be played gives, by the core's play
+pub as-played : (r : Reading) (memory answers : List ℕ) → Playable r (length answers)
+    → replayed r memory answers
+    ≡ replayGave (verdictOf r (length answers)) (corePlayed r memory answers .memory) (corePlayed r memory answers .answers)
+as-played (listed calls) memory answers h =
+    let agree = every-list memory calls in
+    let room = sym (le-leb _ _ h) in
+    let left = sym (agree .memory) in
+    let said = sym (agree .answers) in
+    ap (λ (b : Bool). cond b (machineReplay calls memory answers) (replayGave NoRoom memory answers)) (le-leb _ _ h)
+    ∙ (λ j. replayGave (cond (room j) (Played (length calls)) NoRoom) (left j) (written (numbersOf (said j)) answers))
+as-played (noCall i) memory answers h = absurd h
+as-played (noStretch i) memory answers h = absurd h
+
+-- and one that is refused
+abbrev pub NotPlayed : ReplayAnswer → Type 0
+NotPlayed (Played n) = ⊥
+NotPlayed (NoCall i) = Unit
+NotPlayed (NoStretch i) = Unit
+NotPlayed NoRoom = Unit
+
+pub as-refused : (r : Reading) (memory answers : List ℕ) → NotPlayed (verdictOf r (length answers))
+    → replayed r memory answers ≡ replayGave (verdictOf r (length answers)) memory answers
+as-refused (listed calls) memory answers h = by (leb (23 * length calls) (length answers)) refl
+  where
+    by : (b : Bool) → leb (23 * length calls) (length answers) ≡ b
+        → replayed (listed calls) memory answers ≡ replayGave (verdictOf (listed calls) (length answers)) memory answers
+    by true t = absurd (subst NotPlayed (ap (λ (b : Bool). cond b (Played (length calls)) NoRoom) t) h)
+    by false t =
+        ap (λ (b : Bool). cond b (machineReplay calls memory answers) (replayGave NoRoom memory answers)) t
+        ∙ ap (λ (b : Bool). replayGave (cond b (Played (length calls)) NoRoom) memory answers) (sym t)
+as-refused (noCall i) memory answers h = refl
+as-refused (noStretch i) memory answers h = refl

@@ -1,0 +1,87 @@
+-- `lists::replay` meets its contract: by its verdict; what is played is the machine's by the theorem `EveryList`. Assumes nothing.
+use mathlib.Core.Path.{sym, ap, subst, _∙_}
+use lib.ListN.{length}
+use Rattle.lists.specs.Replay.{readCalls, replayGave}
+use Rattle.lists.specs.declared.ReplayAnswer.{ReplayAnswer}
+use Rattle.lists.proofs.Replayed.{playable-when, as-played, NotPlayed, as-refused}
+use borrow.Author.Needs.{needs}
+use Rattle.lists.proofs.replay.Statement.{statement}
+use Rattle.lists.proofs.replay.Tie as tie
+
+check-requires : tie.Need-check-requires
+check-requires c κs = search needs
+
+enum-told : tie.Need-enum-told
+enum-told c = search needs
+
+play-all-requires : tie.Need-play-all-requires
+play-all-requires c κs =
+    let a = c .before .before .before .before .before .before .before .before .before .args in
+    playable-when (readCalls (a .text .now) (a .calls .now)) (length (a .answers .now)) (c .before .before .enum-told .given .0 .0)
+    (sym (c .before .before .before .before .check .ensures) ∙ c .before .before .enum-told .given .1)
+
+enum-told-2 : tie.Need-enum-told-2
+enum-told-2 c = search needs
+
+enum-told-3 : tie.Need-enum-told-3
+enum-told-3 c = search needs
+
+enum-told-4 : tie.Need-enum-told-4
+enum-told-4 c = search needs
+
+same-length : tie.Need-same-length
+same-length c = search needs
+
+same-length-2 : tie.Need-same-length-2
+same-length-2 c = search needs
+
+returns : tie.Need-returns
+returns c =
+    let a = c .before .before .before .before .before .before .before .before .before .before .before .before .before .before .args in
+    let read = readCalls (a .text .now) (a .calls .now) in
+    let found = c .before .before .before .before .before .before .before .before .before .check .ensures in
+    let told = c .before .before .before .before .before .before .before .enum-told .given in
+    let played = sym (c .before .before .before .before .play-all .ensures) in
+    (λ j. replayGave (found j) (played j .memory) (played j .answers))
+    ∙ sym (as-played read (a .memory .now) (a .answers .now) (playable-when read (length (a .answers .now)) (told .0 .0) (sym found ∙ told .1)))
+
+returns-2 : tie.Need-returns-2
+returns-2 c =
+    let a = c .before .before .before .before .before .before .before .args in
+    let read = readCalls (a .text .now) (a .calls .now) in
+    let found = c .before .before .check .ensures in
+    ap (λ (x : ReplayAnswer). replayGave x (a .memory .now) (a .answers .now)) found
+    ∙ sym (as-refused read (a .memory .now) (a .answers .now) (subst NotPlayed (sym (c .enum-told2 .given .1) ∙ found) tt))
+
+returns-3 : tie.Need-returns-3
+returns-3 c =
+    let a = c .before .before .before .before .before .before .before .args in
+    let read = readCalls (a .text .now) (a .calls .now) in
+    let found = c .before .before .check .ensures in
+    ap (λ (x : ReplayAnswer). replayGave x (a .memory .now) (a .answers .now)) found
+    ∙ sym (as-refused read (a .memory .now) (a .answers .now) (subst NotPlayed (sym (c .enum-told3 .given .1) ∙ found) tt))
+
+returns-4 : tie.Need-returns-4
+returns-4 c =
+    let a = c .before .before .before .before .before .before .before .args in
+    let read = readCalls (a .text .now) (a .calls .now) in
+    let found = c .before .before .check .ensures in
+    ap (λ (x : ReplayAnswer). replayGave x (a .memory .now) (a .answers .now)) found
+    ∙ sym (as-refused read (a .memory .now) (a .answers .now) (subst NotPlayed (sym (c .enum-told4 .given .1) ∙ found) tt))
+
+pub replay-spec : {M : Type 1} → statement M
+replay-spec =
+    tie.close
+    (tie.spec
+    check-requires
+    enum-told
+    play-all-requires
+    enum-told-2
+    enum-told-3
+    enum-told-4
+    same-length
+    same-length-2
+    returns
+    returns-2
+    returns-3
+    returns-4)

@@ -1,0 +1,153 @@
+-- Lists of calls given as data: how a list is read, and what a replay of it gives. The contract of `replay` is an equation with
+-- `replayed`, which plays the list on the instruction machine.
+use mathlib.Core.Bool.{cond}
+use mathlib.Core.List.{List, [], _∷_, _++_}
+use Prim.Native.Nat.{ℕ, _+_, _-_, _*_, _≤_}
+use lib.Dec.{eqb, leb}
+use lib.ListN.{length, take, drop}
+use Rattle.core.specs.State.{freshCore}
+use Rattle.core.specs.Calls as core
+use Rattle.layout.specs.Layout.{answerSize, answerNumbers, written}
+use Rattle.lists.specs.Machine.{freshMachine}
+use Rattle.lists.specs.Theorem.{Call, reset, load, run, step, view, MachinePlay, playMachine, playCore}
+use Rattle.lists.specs.declared.ListedCall.{ListedCall}
+use Rattle.lists.specs.declared.ListedCall.the-variants as listedCall
+use Rattle.lists.specs.declared.ReadCall.{ReadCall}
+use Rattle.lists.specs.declared.ReadCall.the-variants as readAs
+use Rattle.lists.specs.declared.ReplayAnswer.{ReplayAnswer}
+use Rattle.lists.specs.declared.ReplayAnswer.the-variants.{Played, NoCall, NoStretch, NoRoom}
+
+-- A call is three numbers, the case and two more: 0 is reset; 1 a load of the bytes of the text from the first up to the second, which is
+-- not included; 2 a run of the first, of 32 bits; 3 step; 4 view. What a case does not name is ignored.
+abbrev pub readStretch : ℕ → ℕ → ℕ → ReadCall
+readStretch first second size =
+    cond (leb first second) (cond (leb second size) (readAs.Read (listedCall.Load first second)) readAs.NoStretch) readAs.NoStretch
+
+abbrev pub readBudget : ℕ → ReadCall
+readBudget first = cond (leb first 4294967295) (readAs.Read (listedCall.Run first)) readAs.NoCall
+
+abbrev pub readCall : ℕ → ℕ → ℕ → ℕ → ReadCall
+readCall kind first second size =
+    cond (eqb kind 0) (readAs.Read listedCall.Reset)
+    (cond (eqb kind 1) (readStretch first second size)
+    (cond (eqb kind 2) (readBudget first)
+    (cond (eqb kind 3) (readAs.Read listedCall.Step) (cond (eqb kind 4) (readAs.Read listedCall.View) readAs.NoCall))))
+
+-- it, as a call of the theorem
+abbrev pub callOf : List ℕ → ListedCall → Call
+callOf text listedCall.Reset = reset
+callOf text (listedCall.Load from to) = load (take (to - from) (drop from text))
+callOf text (listedCall.Run b) = run b
+callOf text listedCall.Step = step
+callOf text listedCall.View = view
+
+-- what a list is read as: its calls; or the index of the first that is none, or whose stretch is none of the text
+pub data Reading : Type 0 where
+  listed : List Call → Reading
+  noCall : ℕ → Reading
+  noStretch : ℕ → Reading
+
+abbrev pub following : Call → Reading → Reading
+following call (listed calls) = listed (call ∷ calls)
+following call (noCall i) = noCall i
+following call (noStretch i) = noStretch i
+
+abbrev pub ahead : List ℕ → ℕ → ReadCall → Reading → Reading
+ahead text i (readAs.Read call) rest = following (callOf text call) rest
+ahead text i readAs.NoCall rest = noCall i
+ahead text i readAs.NoStretch rest = noStretch i
+
+-- the calls from index i on; one or two numbers at the end are no call
+unfoldable pub readFrom : List ℕ → ℕ → List ℕ → Reading
+readFrom text i [] = listed []
+readFrom text i (a ∷ []) = noCall i
+readFrom text i (a ∷ b ∷ []) = noCall i
+readFrom text i (a ∷ b ∷ c ∷ rest) = ahead text i (readCall a b c (length text)) (readFrom text (i + 1) rest)
+
+abbrev pub readCalls : List ℕ → List ℕ → Reading
+readCalls text numbers = readFrom text 0 numbers
+
+-- some answers, one after the other
+unfoldable pub numbersOf : List core.Answer → List ℕ
+numbersOf [] = []
+numbersOf (answer ∷ rest) = answerNumbers answer ++ numbersOf rest
+
+-- what a replay gives back: its answer, and the lent memory and answers as they then are
+pub record Replayed : Type 0 where
+  pub answer : ReplayAnswer
+  pub memory : List ℕ
+  pub answers : List ℕ
+
+abbrev pub replayGave : ReplayAnswer → List ℕ → List ℕ → Replayed
+replayGave answer memory answers = record { answer = answer; memory = memory; answers = answers }
+
+-- the calls played on the instruction machine, which starts fresh on the memory: the memory is the machine's, and its answers are written
+-- from the first place on
+abbrev pub machinePlay : List Call → List ℕ → MachinePlay
+machinePlay calls memory = playMachine calls (freshMachine memory) []
+
+abbrev pub machineReplay : List Call → List ℕ → List ℕ → Replayed
+machineReplay calls memory answers =
+    replayGave (Played (length calls)) (machinePlay calls memory .machine .memory)
+    (written (numbersOf (machinePlay calls memory .answers)) answers)
+
+-- a list that is read, and whose answers fit, is played; any other changes nothing
+abbrev pub replayed : Reading → List ℕ → List ℕ → Replayed
+replayed (listed calls) memory answers =
+    cond (leb (answerSize * length calls) (length answers)) (machineReplay calls memory answers) (replayGave NoRoom memory answers)
+replayed (noCall i) memory answers = replayGave (NoCall i) memory answers
+replayed (noStretch i) memory answers = replayGave (NoStretch i) memory answers
+
+-- For the functions under `replay`. What is found before anything is played:
+abbrev pub verdictOf : Reading → ℕ → ReplayAnswer
+verdictOf (listed calls) room = cond (leb (answerSize * length calls) room) (Played (length calls)) NoRoom
+verdictOf (noCall i) room = NoCall i
+verdictOf (noStretch i) room = NoStretch i
+
+-- a stretch that is read lies in the text
+abbrev pub FitsIn : ℕ → ListedCall → Type 0
+FitsIn size listedCall.Reset = Unit
+FitsIn size (listedCall.Load from to) = (from ≤ to) × (to ≤ size)
+FitsIn size (listedCall.Run b) = Unit
+FitsIn size listedCall.Step = Unit
+FitsIn size listedCall.View = Unit
+
+abbrev pub ReadFits : ℕ → ReadCall → Type 0
+ReadFits size (readAs.Read call) = FitsIn size call
+ReadFits size readAs.NoCall = Unit
+ReadFits size readAs.NoStretch = Unit
+
+-- the call at the front of some numbers
+abbrev pub frontCall : List ℕ → ℕ → ReadCall
+frontCall [] size = readAs.NoCall
+frontCall (a ∷ []) size = readAs.NoCall
+frontCall (a ∷ b ∷ []) size = readAs.NoCall
+frontCall (a ∷ b ∷ c ∷ rest) size = readCall a b c size
+
+abbrev pub ReadWhole : ℕ → ReadCall → Type 0
+ReadWhole size (readAs.Read call) = 3 ≤ size
+ReadWhole size readAs.NoCall = Unit
+ReadWhole size readAs.NoStretch = Unit
+
+-- a list that can be played, with room for so many numbers of answers
+abbrev pub Playable : Reading → ℕ → Type 0
+Playable (listed calls) room = answerSize * length calls ≤ room
+Playable (noCall i) room = ⊥
+Playable (noStretch i) room = ⊥
+
+-- memory and answers of a list played on a core
+pub record Lent : Type 0 where
+  pub memory : List ℕ
+  pub answers : List ℕ
+
+abbrev pub playedAs : List ℕ → List ℕ → Lent
+playedAs memory answers = record { memory = memory; answers = answers }
+
+abbrev pub corePlayed : Reading → List ℕ → List ℕ → Lent
+corePlayed (listed calls) memory answers =
+    record {
+      memory = playCore calls freshCore memory .memory;
+      answers = written (numbersOf (playCore calls freshCore memory .answers)) answers;
+    }
+corePlayed (noCall i) memory answers = record { memory = memory; answers = answers }
+corePlayed (noStretch i) memory answers = record { memory = memory; answers = answers }
