@@ -1,0 +1,2 @@
+-- What the call on a lent core gave.
+pub mod Lent
