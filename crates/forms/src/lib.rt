@@ -4,7 +4,7 @@ ghost use Prim.Native.Nat.{_%_};
 ghost use Rattle.forms.specs.Answers.{formAnswer, wordAnswer};
 ghost use Rattle.forms.specs.Operands.{signed, unsigned, operandsOf, outside, fault, placed};
 ghost use Rattle.forms.specs.Reading.{formWith, wordToForm};
-ghost use Rattle.forms.specs.Writing.{writtenAt, formToWord};
+ghost use Rattle.forms.specs.Writing.{writtenAt, partsOf, formToWord};
 ghost use Rattle.table.specs.Table.{binaryEntry, constantEntry, unaryEntry, jumpEntry};
 ghost use Rattle.isa.specs.declared.Kind.the-variants.{Jump, Call};
 ghost use Rattle.isa.specs.declared.Target.the-variants.{Relative, Absolute, Displaced};
@@ -52,6 +52,9 @@ pub enum WordAnswer {
 // All operands that there are: t, a, b, k, d10, d12.
 pub struct Operands(pub u8, pub u8, pub u8, pub u16, pub i16, pub i16);
 
+// A form taken apart: where its instruction stands in the table, and its operands, those that it lacks zero.
+pub struct Parts(pub u8, pub Operands);
+
 // A word as a signed number.
 fn signed_of(word: u16) -> i16
     ensures { λ r. ⌜ r ≡ signed word ⌝ }
@@ -64,7 +67,7 @@ fn signed_of(word: u16) -> i16
 }
 
 // A signed number as a word.
-fn unsigned_of(d: i16) -> u16
+pub fn unsigned_of(d: i16) -> u16
     ensures { λ r. ⌜ r ≡ unsigned d ⌝ }
 {
     if d < 0 { 65535 - (!d) as u16 } else { d as u16 }
@@ -281,36 +284,44 @@ fn write(entry: u8, x: Operands) -> WordAnswer
     WordAnswer::Written(words::add(table::word_of(entry), placed_of(x)))
 }
 
+pub fn parts_of(form: Form) -> Parts
+    ensures { λ r. ⌜ r ≡ partsOf form ⌝ }
+{
+    match form {
+        Form::Binary { op, t, a, b } => Parts(binary_entry(op), Operands(t, a, b, 0, 0, 0)),
+        Form::Constant { op, t, k } => Parts(constant_entry(op), Operands(t, 0, 0, k, 0, 0)),
+        Form::Ld { t, a, b } => Parts(9, Operands(t, a, b, 0, 0, 0)),
+        Form::St { t, a, b } => Parts(10, Operands(t, a, b, 0, 0, 0)),
+        Form::Unary { op, t, a } => Parts(unary_entry(op), Operands(t, a, 0, 0, 0, 0)),
+        Form::Nop => Parts(16, Operands(0, 0, 0, 0, 0, 0)),
+        Form::Halt => Parts(17, Operands(0, 0, 0, 0, 0, 0)),
+        Form::Ldsp { a } => Parts(18, Operands(0, a, 0, 0, 0, 0)),
+        Form::Rts => Parts(19, Operands(0, 0, 0, 0, 0, 0)),
+        Form::Pop { t } => Parts(20, Operands(t, 0, 0, 0, 0, 0)),
+        Form::Push { t } => Parts(21, Operands(t, 0, 0, 0, 0, 0)),
+        Form::JumpRelative { condition, a } => Parts(
+            relative_entry(condition),
+            Operands(0, a, 0, 0, 0, 0),
+        ),
+        Form::JumpAbsolute { condition, a } => Parts(
+            absolute_entry(condition),
+            Operands(0, a, 0, 0, 0, 0),
+        ),
+        Form::CallRelative { a } => Parts(32, Operands(0, a, 0, 0, 0, 0)),
+        Form::CallAbsolute { a } => Parts(33, Operands(0, a, 0, 0, 0, 0)),
+        Form::JumpDisplaced { condition, d10 } => Parts(
+            displaced_entry(condition),
+            Operands(0, 0, 0, 0, d10, 0),
+        ),
+        Form::CallDisplaced { d12 } => Parts(39, Operands(0, 0, 0, 0, 0, d12)),
+    }
+}
+
 // Form to word: the word, its unused fields zero, or number 5.
 pub fn form_to_word(form: Form) -> WordAnswer
     ensures { λ r. ⌜ wordAnswer r ≡ formToWord form ⌝ }
 {
-    match form {
-        Form::Binary { op, t, a, b } => write(binary_entry(op), Operands(t, a, b, 0, 0, 0)),
-        Form::Constant { op, t, k } => write(constant_entry(op), Operands(t, 0, 0, k, 0, 0)),
-        Form::Ld { t, a, b } => write(9, Operands(t, a, b, 0, 0, 0)),
-        Form::St { t, a, b } => write(10, Operands(t, a, b, 0, 0, 0)),
-        Form::Unary { op, t, a } => write(unary_entry(op), Operands(t, a, 0, 0, 0, 0)),
-        Form::Nop => write(16, Operands(0, 0, 0, 0, 0, 0)),
-        Form::Halt => write(17, Operands(0, 0, 0, 0, 0, 0)),
-        Form::Ldsp { a } => write(18, Operands(0, a, 0, 0, 0, 0)),
-        Form::Rts => write(19, Operands(0, 0, 0, 0, 0, 0)),
-        Form::Pop { t } => write(20, Operands(t, 0, 0, 0, 0, 0)),
-        Form::Push { t } => write(21, Operands(t, 0, 0, 0, 0, 0)),
-        Form::JumpRelative { condition, a } => write(
-            relative_entry(condition),
-            Operands(0, a, 0, 0, 0, 0),
-        ),
-        Form::JumpAbsolute { condition, a } => write(
-            absolute_entry(condition),
-            Operands(0, a, 0, 0, 0, 0),
-        ),
-        Form::CallRelative { a } => write(32, Operands(0, a, 0, 0, 0, 0)),
-        Form::CallAbsolute { a } => write(33, Operands(0, a, 0, 0, 0, 0)),
-        Form::JumpDisplaced { condition, d10 } => write(
-            displaced_entry(condition),
-            Operands(0, 0, 0, 0, d10, 0),
-        ),
-        Form::CallDisplaced { d12 } => write(39, Operands(0, 0, 0, 0, 0, d12)),
-    }
+    let parts = parts_of(form);
+    let x = parts.1;
+    write(parts.0, x)
 }

@@ -1,13 +1,12 @@
 // r8trace: loads a listing from standard input into a memory of 16,384 zero words and runs a fresh core for 1,000 cycles. Writes a line
 // for each instruction finished (address, word, cycles, NZCV after) and the totals, or why the listing was refused.
-ghost use Prim.Native.Nat.{_≤_, _<_};
+ghost use Prim.Native.Nat.{_+_, _*_, _≤_, _<_};
 ghost use lib.ListN.{length};
-use core::Core;
 use core::End;
 use core::Instructions;
-use core::LoadAnswer;
-use core::RunAnswer;
 use isa::Cycles;
+use listing::Fault;
+use trace::TraceAnswer;
 
 // A place with room on the page; a full page is written out and begun anew.
 fn room(page: &[u8; 8192], at: usize) -> usize
@@ -56,35 +55,25 @@ fn put_number(page: &mut [u8; 8192], at: usize, n: u64) -> usize
     put(page, at, &digits[..count])
 }
 
-// The cycles that a step used. A refused step, which does not arise here, counts as 0.
-fn cycles_of(answer: RunAnswer) -> Cycles {
-    match answer {
-        RunAnswer::Ran {
-            cycles,
-            instructions: _,
-            end: _,
-        } => cycles,
-        RunAnswer::Refused(_) => Cycles(0),
-    }
+// The line of the row at a place. Each number fits; the remainders only say so.
+fn row_text(rows: &[u64; 2000], at: usize) -> [u8; 17]
+    requires { ⌜ at + 4 ≤ 2000 ⌝ }
+{
+    let address = (rows[at] % 65536) as u16;
+    let word = (rows[at + 1] % 65536) as u16;
+    let cycles = Cycles((rows[at + 2] % 4294967296) as u32);
+    text::line_text(address, word, cycles, trace::flags_of(rows[at + 3]))
 }
 
-// Puts the lines of so many instructions on the page, a step for each, and answers the place after them.
-fn put_lines(page: &mut [u8; 8192], mut core: Core, count: u32, memory: &mut [u16]) -> usize
+// Puts the lines of so many rows on the page, and answers the place after them.
+fn put_lines(page: &mut [u8; 8192], rows: &[u64; 2000], count: u32) -> usize
+    requires { ⌜ 4 * count ≤ 2000 ⌝ }
     ensures { λ r. ⌜ r ≤ 8192 ⌝ }
 {
     let mut at = 0;
-    let mut left = count;
-    while left > 0 {
-        let address = core.pc;
-        let word = words::read(memory, address);
-        let stepped = core.step(memory);
-        let next = stepped.core;
-        let flags = next.flags;
-        let answer = stepped.answer;
-        let bytes = text::line_text(address, word, cycles_of(answer), flags);
+    for i in 0..count {
+        let bytes = row_text(rows, 4 * i as usize);
         at = put(page, at, &bytes);
-        core = next;
-        left -= 1;
     }
     at
 }
@@ -110,28 +99,20 @@ fn put_totals(
     )
 }
 
-// Writes the trace of a loaded core. The totals are the answer of one run of 1,000 cycles; the lines come from steps of the instructions
-// that it finished, from the same start. Neither is refused: the core is fresh, and the memory of a right length.
-fn write_trace(core: Core, memory: &mut [u16], second: &mut [u16]) {
-    let answer = core.run(1000, memory).answer;
-    let RunAnswer::Ran {
-        cycles,
-        instructions,
-        end,
-    } = answer
-    else {
-        return;
-    };
+// Writes a trace: its rows, then the totals.
+fn write_trace(rows: &[u64; 2000], cycles: Cycles, instructions: Instructions, end: End)
+    requires { ⌜ 4 * instructions .0 ≤ 2000 ⌝ }
+{
     let mut page = [0u8; 8192];
-    let lines = put_lines(&mut page, core, instructions.0, second);
+    let lines = put_lines(&mut page, rows, instructions.0);
     let at = put_totals(&mut page, lines, cycles, instructions, end);
     write_page(&page, at);
 }
 
-fn write_refusal(number: u64, offset: usize) {
+fn write_refusal(fault: Fault, offset: usize) {
     let mut page = [0u8; 8192];
     let mut at = put(&mut page, 0, b"refused ");
-    at = put_number(&mut page, at, number);
+    at = put_number(&mut page, at, text::fault_number(fault) as u64);
     at = put(&mut page, at, b" at ");
     at = put_number(&mut page, at, offset as u64);
     at = put(&mut page, at, b"\n");
@@ -141,23 +122,21 @@ fn write_refusal(number: u64, offset: usize) {
 fn main() {
     let mut input = [0u8; 65537];
     let length = io::read_full(0, &mut input);
-    if length > 65536 {
-        io::write_all(1, b"too long\n");
-        return;
-    }
-    let mut memory = [0u16; 16384];
-    let loaded = core::fresh().load(&input[..length], &mut memory);
-    let answer = loaded.answer;
+    let mut rows = [0u64; 2000];
+    let answer = trace::trace(&input[..length], &mut rows);
     match answer {
-        LoadAnswer::Stored(_) => {
-            let mut second = memory;
-            write_trace(loaded.core, &mut memory, &mut second);
+        TraceAnswer::Traced {
+            cycles,
+            instructions,
+            end,
+        } => write_trace(&rows, cycles, instructions, end),
+        TraceAnswer::Faulty(fault, offset) => write_refusal(fault, offset),
+        TraceAnswer::TooLong => {
+            io::write_all(1, b"too long\n");
         }
-        LoadAnswer::Faulty(fault, offset) => write_refusal(
-            text::fault_number(fault) as u64,
-            offset,
-        ),
-        // 1 and 7, which do not arise from a fresh core and this memory
-        LoadAnswer::Refused(why) => write_refusal(text::refusal_number(why) as u64, 0),
+        // does not arise: an instruction has 2 cycles or more, so 1,000 cycles finish at most 500
+        TraceAnswer::NoRoom => {
+            io::write_all(1, b"no room\n");
+        }
     }
 }

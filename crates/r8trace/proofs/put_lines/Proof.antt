@@ -1,31 +1,26 @@
--- `r8trace::put_lines` meets its contract: a line more for each step. Assumes nothing.
+-- `r8trace::put_lines` meets its contract: a line more for each row. Assumes nothing.
 use borrow.Author.Needs.{needs}
-use Prim.Native.Nat.{_≤_}
-use mathlib.Core.Path.{_≡_}
-use lib.ListN.{length}
+use Prim.Native.Nat.{_-_, _≤_}
 use Rattle.r8trace.proofs.put_lines.Statement.{statement}
 use Rattle.r8trace.proofs.put_lines.Tie as tie
 
 abbrev Inv-loop : tie.InvT-loop
-Inv-loop page₀ core₀ count memory₀ at₀ left₀ page core memory at left = (at ≤ 8192) × (length memory ≡ length memory₀)
+Inv-loop page₀ rows count at₀ i₀ page at i = (at ≤ 8192) × (i ≤ count)
 
 abbrev μ-loop : tie.MeasureT-loop
-μ-loop page₀ core₀ count memory₀ at₀ left₀ page core memory at left = left
+μ-loop page₀ rows count at₀ i₀ page at i = count - i
 
 loop-holds : tie.Need-loop-holds Inv-loop μ-loop
 loop-holds c = search needs
 
-read-requires : tie.Need-read-requires Inv-loop μ-loop
-read-requires c κs = search needs
+cast-row-text : tie.Need-cast-row-text Inv-loop μ-loop
+cast-row-text c = search needs
 
-step-requires : tie.Need-step-requires Inv-loop μ-loop
-step-requires c κs = search needs
+mul-row-text : tie.Need-mul-row-text Inv-loop μ-loop
+mul-row-text c = search needs
 
-cycles-of-requires : tie.Need-cycles-of-requires Inv-loop μ-loop
-cycles-of-requires c κs = search needs
-
-line-text-requires : tie.Need-line-text-requires Inv-loop μ-loop
-line-text-requires c κs = search needs
+row-text-requires : tie.Need-row-text-requires Inv-loop μ-loop
+row-text-requires c κs = search needs
 
 slice-aggregate-put : tie.Need-slice-aggregate-put Inv-loop μ-loop
 slice-aggregate-put c = search needs
@@ -33,17 +28,14 @@ slice-aggregate-put c = search needs
 put-requires : tie.Need-put-requires Inv-loop μ-loop
 put-requires c κs = search needs
 
-sub-left : tie.Need-sub-left Inv-loop μ-loop
-sub-left c = search needs
+add-i : tie.Need-add-i Inv-loop μ-loop
+add-i c = search needs
 
 loop-less : tie.Need-loop-less Inv-loop μ-loop
 loop-less c = search needs
 
 loop-again : tie.Need-loop-again Inv-loop μ-loop
 loop-again c = search needs
-
-same-length : tie.Need-same-length Inv-loop μ-loop
-same-length c = search needs
 
 returns : tie.Need-returns Inv-loop μ-loop
 returns c = search needs
@@ -55,14 +47,12 @@ put-lines-spec =
     Inv-loop
     μ-loop
     loop-holds
-    read-requires
-    step-requires
-    cycles-of-requires
-    line-text-requires
+    cast-row-text
+    mul-row-text
+    row-text-requires
     slice-aggregate-put
     put-requires
-    sub-left
+    add-i
     loop-less
     loop-again
-    same-length
     returns)

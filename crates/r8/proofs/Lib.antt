@@ -1,0 +1,7 @@
+-- Laws that the proofs of `r8` share, and the theorems.
+mod Copying
+mod Lengths
+mod Numbers
+mod Calls
+mod Held
+pub mod Theorems

@@ -1,0 +1,67 @@
+-- `r8::call::put_state` meets its contract: four numbers to the end. Assumes nothing.
+use mathlib.Core.Path.{refl, _∙_}
+use mathlib.Core.List.{[], _∷_}
+use native.Mathlib.Omega.{arith}
+use lib.Seq.{sets}
+use borrow.Author.Needs.{needs}
+use Rattle.r8.specs.Slices.{onto}
+use Rattle.r8.proofs.Lengths.{filled}
+use Rattle.r8.proofs.Numbers.{flags-small, stop-small}
+use Rattle.r8.proofs.call.put_state.Statement.{statement}
+use Rattle.r8.proofs.call.put_state.Tie as tie
+
+flags-number-requires : tie.Need-flags-number-requires
+flags-number-requires c κs = search needs
+
+cast-state : tie.Need-cast-state
+cast-state c = omega (arith, c .flags-number .ensures, flags-small (c .before .before .before .before .args .core .flags))
+
+slice-write-state : tie.Need-slice-write-state
+slice-write-state c = search needs
+
+stop-number-requires : tie.Need-stop-number-requires
+stop-number-requires c κs = search needs
+
+cast-state-2 : tie.Need-cast-state-2
+cast-state-2 c = omega (arith, c .stop-number .ensures, stop-small (c .before .before .before .before .before .args .core .stop))
+
+slice-write-state-2 : tie.Need-slice-write-state-2
+slice-write-state-2 c = search needs
+
+cast-state-3 : tie.Need-cast-state-3
+cast-state-3 c = search needs
+
+slice-write-state-3 : tie.Need-slice-write-state-3
+slice-write-state-3 c = search needs
+
+slice-write-state-4 : tie.Need-slice-write-state-4
+slice-write-state-4 c = search needs
+
+same-length : tie.Need-same-length
+same-length c = search needs
+
+returns : tie.Need-returns
+unfolding onto
+returns c =
+    let start = c .before .before .before .before .before .before in
+    let core = start .args .core in
+    let flags = c .before .before .flags-number .ensures in
+    let stop = c .before .stop-number .ensures in
+    (λ j. sets (start .args .state .now) 0 (flags j ∷ stop j ∷ core .due ∷ core .clock .0 ∷ []))
+    ∙ filled [] _ (start .args .state .now) 0 refl (omega (arith, start .pre))
+
+pub put-state-spec : {M : Type 1} → statement M
+put-state-spec =
+    tie.close
+    (tie.spec
+    flags-number-requires
+    cast-state
+    slice-write-state
+    stop-number-requires
+    cast-state-2
+    slice-write-state-2
+    cast-state-3
+    slice-write-state-3
+    slice-write-state-4
+    same-length
+    returns)

@@ -1,0 +1,84 @@
+-- `r8::call::r8_step` meets its contract: by its code. Where it is 0 the call is made on the core of the numbers. Assumes nothing.
+use mathlib.Core.Path.{_∙_}
+use borrow.Author.Needs.{needs}
+use Rattle.core.specs.Calls.{step}
+use Rattle.r8.specs.Call.{Lent, lent}
+use Rattle.r8.proofs.Calls.{taken, refused, answered}
+use Rattle.r8.proofs.call.r8_step.Statement.{statement}
+use Rattle.r8.proofs.call.r8_step.Tie as tie
+
+code-of-requires : tie.Need-code-of-requires
+code-of-requires c κs = search needs
+
+same-length : tie.Need-same-length
+same-length c = search needs
+
+same-length-2 : tie.Need-same-length-2
+same-length-2 c = search needs
+
+same-length-3 : tie.Need-same-length-3
+same-length-3 c = search needs
+
+returns : tie.Need-returns
+returns c =
+    let a = c .before .before .before .before .before .before .before .before .before .args in
+    let x : Lent = lent (a .registers .now) (a .state .now) (a .memory .now) (a .answer .now) in
+    refused step x _ (c .before .code-of .ensures) (c .if1 .taken)
+
+core-of-requires : tie.Need-core-of-requires
+core-of-requires c κs =
+    let test = c .before .before in
+    let a = test .before .before .before .before .before .before .before .before .before .args in
+    let f = taken (a .registers .now) (a .state .now) (a .answer .now) _ (test .before .code-of .ensures) (test .if1 .left) .0 in
+    (f .registers, f .state, f .due)
+
+step-requires : tie.Need-step-requires
+step-requires c κs = search needs
+
+put-requires : tie.Need-put-requires
+put-requires c κs =
+    let test = c .before .before .before .before .before .before .before .before .before .before in
+    let a = test .before .before .before .before .before .before .before .before .before .args in
+    let f = taken (a .registers .now) (a .state .now) (a .answer .now) _ (test .before .code-of .ensures) (test .if1 .left) in
+    (f .0 .registers, f .0 .state, f .1)
+
+same-length-4 : tie.Need-same-length-4
+same-length-4 c = search needs
+
+same-length-5 : tie.Need-same-length-5
+same-length-5 c = search needs
+
+same-length-6 : tie.Need-same-length-6
+same-length-6 c = search needs
+
+same-length-7 : tie.Need-same-length-7
+same-length-7 c = search needs
+
+returns-2 : tie.Need-returns-2
+returns-2 c =
+    let made = c .before .before .before .before .before .before .before .before .before .before .before .before in
+    let core = made .before .before in
+    let test = core .before .before .before in
+    let a = test .before .before .before .before .before .before .before .before .before .args in
+    let x : Lent = lent (a .registers .now) (a .state .now) (a .memory .now) (a .answer .now) in
+    let put = c .before .before .before .before .before .before .put .ensures in
+    (λ j. (0, lent (put .0 j) (put .1 j) (made .step .last .1 .0) (put .2 j)))
+    ∙ answered step x _ (test .before .code-of .ensures) _ _ (test .if1 .left) (core .core-of .ensures) (made .step .ensures)
+
+pub r8-step-spec : {M : Type 1} → statement M
+r8-step-spec =
+    tie.close
+    (tie.spec
+    code-of-requires
+    same-length
+    same-length-2
+    same-length-3
+    returns
+    core-of-requires
+    step-requires
+    put-requires
+    same-length-4
+    same-length-5
+    same-length-6
+    same-length-7
+    returns-2)

@@ -1,0 +1,49 @@
+-- `r8::rows::r8_trace` meets its contract: by its tests; then the trace's own, with its answer as numbers. Assumes nothing.
+use mathlib.Core.Path.{ap, _∙_}
+use borrow.Author.Tests.{lt-ltb, le-ltb}
+use Rattle.trace.specs.Trace.{Trace}
+use Rattle.r8.specs.Trace.{lentTrace, afterTrace, tracedLent}
+use borrow.Author.Needs.{needs}
+use Rattle.r8.proofs.rows.r8_trace.Statement.{statement}
+use Rattle.r8.proofs.rows.r8_trace.Tie as tie
+
+returns : tie.Need-returns
+unfolding tracedLent
+returns c = simp (lt-ltb _ _ (c .if1 .taken))
+
+returns-2 : tie.Need-returns-2
+unfolding tracedLent
+returns-2 c = simp (le-ltb _ _ (c .before .if1 .left), lt-ltb _ _ (c .if2 .taken))
+
+trace-requires : tie.Need-trace-requires
+trace-requires c κs = search needs
+
+put-found-requires : tie.Need-put-found-requires
+put-found-requires c κs = search needs
+
+same-length : tie.Need-same-length
+same-length c = search needs
+
+same-length-2 : tie.Need-same-length-2
+same-length-2 c = search needs
+
+returns-3 : tie.Need-returns-3
+unfolding tracedLent
+returns-3 c =
+    let a = c .before .before .before .before .before .before .before .before .before .before .before .before .before .args in
+    let put = c .before .before .put-found .ensures in
+    let x = c .before .before .before .before .before .before .trace in
+    simp (le-ltb _ _ (c .before .before .before .before .before .before .before .before .before .if1 .left), le-ltb _ _ (c .before .before .before .before .before .before .before .before .if2 .left))
+    ((λ j. lentTrace (put j .0) (x .last .1 .0) (put j .1)) ∙ ap (λ (t : Trace). afterTrace t (a .answer .now)) (x .ensures))
+
+pub r8-trace-spec : {M : Type 1} → statement M
+r8-trace-spec =
+    tie.close
+    (tie.spec
+    returns
+    returns-2
+    trace-requires
+    put-found-requires
+    same-length
+    same-length-2
+    returns-3)

@@ -1,0 +1,42 @@
+-- r8_run and r8_step: a call of a core given as numbers.
+use mathlib.Core.Bool.{cond}
+use mathlib.Core.List.{List}
+use Prim.Native.Nat.{ℕ}
+use lib.Dec.{eqb, ltb}
+use lib.ListN.{length}
+use Rattle.core.specs.Calls.{Reply}
+use Rattle.core.specs.declared.Core.{Core}
+use Rattle.layout.specs.Layout.{answerSize, answerNumbers}
+use Rattle.r8.specs.Slices.{onto}
+use Rattle.r8.specs.Numbers.{registersOf, stateOf, coreOf, isCore}
+
+-- the slices that a caller lends
+pub record Lent : Type 0 where
+  pub registers : List ℕ
+  pub state : List ℕ
+  pub memory : List ℕ
+  pub answer : List ℕ
+
+abbrev pub lent : List ℕ → List ℕ → List ℕ → List ℕ → Lent
+lent registers state memory answer =
+    record { registers = registers; state = state; memory = memory; answer = answer }
+
+-- 1: the numbers are no core's; 2: the answer is too short; 0: the call is made
+unfoldable pub codeOf : List ℕ → List ℕ → List ℕ → ℕ
+codeOf registers state answer =
+    cond (isCore registers state) (cond (ltb (length answer) answerSize) 2 0) 1
+
+-- the next core, the memory and the answer
+abbrev pub after : Reply → List ℕ → Lent
+after reply answer =
+    lent (registersOf (reply .core)) (stateOf (reply .core)) (reply .memory) (onto (answerNumbers (reply .answer)) answer)
+
+abbrev pub made : (Core → List ℕ → Reply) → Lent → Lent
+made call x = after (call (coreOf (x .registers) (x .state)) (x .memory)) (x .answer)
+
+-- what is returned, and what is then in the slices: with a code other than 0, what was there
+abbrev pub returned : ℕ → Lent → Lent → ℕ × Lent
+returned code x next = (code, cond (eqb code 0) next x)
+
+unfoldable pub called : (Core → List ℕ → Reply) → Lent → ℕ × Lent
+called call x = returned (codeOf (x .registers) (x .state) (x .answer)) x (made call x)

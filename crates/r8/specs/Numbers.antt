@@ -1,0 +1,57 @@
+-- A core as numbers: 22 words, R0 to R15, PC, SP, IR, RA, RB, RALU; and four numbers, 8N+4Z+2C+V, stop state, cycle due, clock.
+use mathlib.Core.Bool.{Bool, cond, _&&_}
+use mathlib.Core.List.{List, [], _∷_, _++_}
+use Prim.Native.Nat.{ℕ, _/_, _%_}
+use lib.Dec.{eqb, leb}
+use lib.ListN.{length, getD, take}
+use Rattle.isa.specs.declared.Flags.{Flags}
+use Rattle.effects.specs.declared.Stop.{Stop}
+use Rattle.effects.specs.declared.Stop.the-variants.{Going, Halted, Undefined}
+use Rattle.core.specs.declared.Core.{Core}
+use Rattle.layout.specs.Layout.{flagsNumber, stopNumber}
+
+abbrev pub registersSize : ℕ
+registersSize = 22
+
+abbrev pub stateSize : ℕ
+stateSize = 4
+
+abbrev pub registersOf : Core → List ℕ
+registersOf core =
+    core .regs ++ (core .pc ∷ core .sp ∷ core .ir ∷ core .ra ∷ core .rb ∷ core .ralu ∷ [])
+
+abbrev pub stateOf : Core → List ℕ
+stateOf core = flagsNumber (core .flags) ∷ stopNumber (core .stop) ∷ core .due ∷ core .clock .0 ∷ []
+
+-- back: that nothing is lost is said in Theorems
+abbrev pub isOdd : ℕ → Bool
+isOdd n = eqb (n % 2) 1
+
+abbrev pub flagsOf : ℕ → Flags
+flagsOf n = record { n = isOdd (n / 8); z = isOdd (n / 4); c = isOdd (n / 2); v = isOdd n }
+
+abbrev pub stopOf : ℕ → Stop
+stopOf n = cond (eqb n 0) Going (cond (eqb n 1) Halted Undefined)
+
+abbrev pub coreOf : List ℕ → List ℕ → Core
+coreOf registers state =
+    record {
+      regs = take 16 registers;
+      pc = getD registers 16 0;
+      sp = getD registers 17 0;
+      flags = flagsOf (getD state 0 0);
+      ir = getD registers 18 0;
+      ra = getD registers 19 0;
+      rb = getD registers 20 0;
+      ralu = getD registers 21 0;
+      due = getD state 2 0;
+      stop = stopOf (getD state 1 0);
+      clock = record { 0 = getD state 3 0 };
+    }
+
+-- are they a core's: their counts, flags of four bits, a stop state, a cycle due of a byte
+unfoldable pub isCore : List ℕ → List ℕ → Bool
+isCore registers state =
+    eqb (length registers) registersSize
+    && (eqb (length state) stateSize
+    && (leb (getD state 0 0) 15 && (leb (getD state 1 0) 2 && leb (getD state 2 0) 255)))

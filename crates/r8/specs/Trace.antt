@@ -1,0 +1,31 @@
+-- r8_trace: what it returns, and what is then in the slices.
+use mathlib.Core.Bool.{cond}
+use mathlib.Core.List.{List}
+use Prim.Native.Nat.{ℕ}
+use lib.Dec.{ltb}
+use lib.ListN.{length}
+use Rattle.layout.specs.Layout.{answerSize, answerNumbers, written}
+use Rattle.trace.specs.Trace.{Finding, answered, tooLong, noRoom, Trace, traced}
+
+pub record TraceReturned : Type 0 where
+  pub code : ℕ
+  pub rows : List ℕ
+  pub answer : List ℕ
+
+abbrev pub lentTrace : ℕ → List ℕ → List ℕ → TraceReturned
+lentTrace code rows answer = record { code = code; rows = rows; answer = answer }
+
+-- 0: the run's answer, or the refused load's; 1: the listing is too long; 2: the rows are too short
+abbrev pub foundReturned : Finding → List ℕ → ℕ × List ℕ
+foundReturned (answered a) answer = (0, written (answerNumbers a) answer)
+foundReturned tooLong answer = (1, answer)
+foundReturned noRoom answer = (2, answer)
+
+abbrev pub afterTrace : Trace → List ℕ → TraceReturned
+afterTrace x answer = lentTrace (foundReturned (x .finding) answer .0) (x .rows) (foundReturned (x .finding) answer .1)
+
+-- 1 before 2; 2: the answer is too short
+unfoldable pub tracedLent : List ℕ → List ℕ → List ℕ → TraceReturned
+tracedLent listing rows answer =
+    cond (ltb 65536 (length listing)) (lentTrace 1 rows answer)
+    (cond (ltb (length answer) answerSize) (lentTrace 2 rows answer) (afterTrace (traced listing rows) answer))

@@ -1,0 +1,233 @@
+-- Laws of a run that is cut between instructions: steps go where its cycles go.
+use mathlib.Core.Path.{_≡_, refl, sym, ap, _∙_}
+use mathlib.Core.Bool.{Bool, true, false, not}
+use mathlib.Core.List.{List, [], _∷_, _++_}
+use Prim.Native.Nat.{ℕ, zero, suc, _+_, _-_, _*_, _≤_, _<_}
+use native.Mathlib.Omega.{arith}
+use native.Mathlib.Nat.{zero-add, add-zero}
+use borrow.Author.Tests.{eq-eqb, le-ltb, leb-true, leb-false}
+use lib.Dec.{leb}
+use lib.ListN.{length}
+use Rattle.words.specs.Memory.{wordAt}
+use Rattle.words.specs.Arithmetic.{bit}
+use Rattle.effects.specs.declared.Stop.the-variants.{Going}
+use Rattle.core.specs.State.{Visible, visibleOf, freshCore}
+use Rattle.core.specs.Instruction.{after, memoryAfter, costAt, instructed}
+use Rattle.core.specs.Datapath.{cycled}
+use Rattle.core.specs.Numbers.{wrongLength, isGoing, runNumber}
+use Rattle.core.specs.Calls.{Reply, Progress, advanced, cyclesOn, steppedReply, dueOne, step}
+use Rattle.core.specs.declared.Core.{Core}
+use Rattle.core.proofs.Cycles.{no-cycle, one-more, none-more, cycles-add, only-going, cost-range}
+use Rattle.core.proofs.OneInstruction.{one-instruction}
+use Rattle.core.proofs.Replies.{passed, none-left, step-starts, applied-length}
+use Rattle.trace.specs.Trace.{flagsNumber, cyclesOf, rowOf, rowsOf}
+use Rattle.trace.specs.Theorems.{cyclesIn}
+
+-- instructions finished stay finished
+grows : (n : ℕ) (p : Progress) → p .finished ≤ cyclesOn n p .finished
+unfolding advanced
+grows zero p = rw (no-cycle p) (omega arith)
+grows (suc n) p = by (isGoing (p .core .stop)) refl (grows n (advanced p))
+  where
+    by : (g : Bool) → isGoing (p .core .stop) ≡ g → advanced p .finished ≤ cyclesOn n (advanced p) .finished
+        → p .finished ≤ cyclesOn (suc n) p .finished
+    by true g ih = rw (one-more n p g) (omega arith)
+    by false g ih = rw (none-more (suc n) p g) (omega arith)
+
+-- a core that steps and a run stand before the same instruction, with b cycles left
+pub record Same (q : Progress) (core : Core) (memory : List ℕ) (b : ℕ) : Type 0 where
+  pub visible : visibleOf (q .core) ≡ visibleOf core
+  pub words : q .memory ≡ memory
+  pub due : q .core .due ≡ 1
+  pub one : core .due ≡ 1
+  pub size : length memory ≡ 16384
+  pub room : core .clock .0 + b + 4 ≤ 4294967295
+
+-- and after one instruction more, of c cycles
+pub record Next (q : Progress) (core : Core) (memory : List ℕ) (b c : ℕ) : Type 0 where
+  pub cycles : cyclesOf (step core memory .answer) ≡ c
+  pub some : 2 ≤ c
+  pub within : c ≤ b
+  pub same : Same (cyclesOn c q) (step core memory .core) (step core memory .memory) (b - c)
+  pub finished : cyclesOn c q .finished ≡ q .finished + 1
+  pub used : cyclesOn c q .used ≡ q .used + c
+  pub rest : cyclesOn b q ≡ cyclesOn (b - c) (cyclesOn c q)
+
+module _ (q : Progress) (core : Core) (memory : List ℕ) (b : ℕ) (s : Same q core memory b) where
+  cost : costAt (q .memory) (visibleOf (q .core)) ≡ costAt memory (visibleOf core)
+  cost = λ j. costAt (s .words j) (s .visible j)
+
+  step-is : core .stop ≡ Going → step core memory ≡ steppedReply (costAt memory (visibleOf core)) (instructed memory core) memory
+  unfolding runNumber
+  step-is going =
+      let size : wrongLength (length memory) ≡ false = ap wrongLength (s .size) in
+      let due : dueOne core ≡ true = eq-eqb (core .due) 1 (s .one) in
+      let clock = le-ltb 4294967295 (core .clock .0 + 4) (omega (arith, s .room)) in
+      step-starts core memory
+      (passed 1 _ _ size
+      ∙ passed 8 _ _ (ap (λ x. not (isGoing x)) going)
+      ∙ passed 7 _ _ (ap not due)
+      ∙ passed 9 _ _ clock
+      ∙ none-left)
+
+  taken : q .core .stop ≡ Going → costAt memory (visibleOf core) ≤ b → Next q core memory b (costAt memory (visibleOf core))
+  unfolding instructed memoryAfter
+  taken going within =
+      let c = costAt memory (visibleOf core) in
+      let f = rw cost at (one-instruction q going (s .due) .1) in
+      let stepped = step-is (sym (ap (λ (v : Visible). v .stop) (s .visible)) ∙ going) in
+      let put = ap (λ (r : Reply). r .memory) stepped in
+      record {
+        cycles = ap (λ (r : Reply). cyclesOf (r .answer)) stepped;
+        some = cost-range memory (visibleOf core) .0;
+        within = within;
+        same =
+            record {
+              visible =
+                  f .visible
+                  ∙ (λ j. after (s .words j) (s .visible j))
+                  ∙ sym (ap (λ (r : Reply). visibleOf (r .core)) stepped);
+              words = f .memory ∙ (λ j. memoryAfter (s .words j) (s .visible j)) ∙ sym put;
+              due = f .due;
+              one = ap (λ (r : Reply). r .core .due) stepped;
+              size = ap length put ∙ applied-length (instructed memory core .store) memory ∙ s .size;
+              room = omega (arith, s .room, ap (λ (r : Reply). r .core .clock .0) stepped);
+            };
+        finished = f .finished;
+        used = f .used ∙ ap (λ (n : ℕ). q .used + n) cost;
+        rest = ap (λ (n : ℕ). cyclesOn n q) {y = c + (b - c)} (omega arith) ∙ cycles-add c (b - c) q;
+      }
+
+  -- with an instruction finished in the cycles left, the core is going and they are enough for the first
+  pub next : q .finished < cyclesOn b q .finished → Next q core memory b (costAt memory (visibleOf core))
+  next more = by (isGoing (q .core .stop)) (leb (costAt memory (visibleOf core)) b) refl refl
+    where
+      by : (g w : Bool) → isGoing (q .core .stop) ≡ g → leb (costAt memory (visibleOf core)) b ≡ w
+          → Next q core memory b (costAt memory (visibleOf core))
+      by false w g h = absurd (omega (arith, more, ap (λ (p : Progress). p .finished) (none-more b q g)))
+      by true true g h = taken (only-going (q .core .stop) g) (leb-true (costAt memory (visibleOf core)) b h)
+      by true false g h =
+          let short = leb-false (costAt memory (visibleOf core)) b h in
+          let m = one-instruction q (only-going (q .core .stop) g) (s .due) .0 b (omega (arith, cost, short)) in
+          absurd (omega (arith, more, m .finished))
+
+  -- with none, the cycles left are spent in an unfinished one, or the core is stopped
+  last : cyclesOn b q .finished ≡ q .finished → q .used + cyclesOn b q .core .due ≡ cyclesOn b q .used + 1
+  last none = by (isGoing (q .core .stop)) (leb (costAt memory (visibleOf core)) b) refl refl
+    where
+      by : (g w : Bool) → isGoing (q .core .stop) ≡ g → leb (costAt memory (visibleOf core)) b ≡ w
+          → q .used + cyclesOn b q .core .due ≡ cyclesOn b q .used + 1
+      by false w g h = rw (none-more b q g) (ap (λ (n : ℕ). q .used + n) (s .due))
+      by true true g h =
+          let n = taken (only-going (q .core .stop) g) (leb-true (costAt memory (visibleOf core)) b h) in
+          let c = costAt memory (visibleOf core) in
+          let more = grows (b - c) (cyclesOn c q) in
+          let all = ap (λ (p : Progress). p .finished) (n .rest) in
+          absurd (omega (arith, more, all, none, n .finished))
+      by true false g h =
+          let short = leb-false (costAt memory (visibleOf core)) b h in
+          let m = one-instruction q (only-going (q .core .stop) g) (s .due) .0 b (omega (arith, cost, short)) in
+          omega (arith, m .due, m .used)
+
+-- the cycles of so many steps
+abbrev spent : ℕ → Core → List ℕ → ℕ
+spent i core memory = cyclesIn (rowsOf i core memory)
+
+spent-more : (i : ℕ) (core : Core) (memory : List ℕ)
+    → spent (suc i) core memory ≡ cyclesOf (step core memory .answer) + spent i (step core memory .core) (step core memory .memory)
+unfolding rowsOf cyclesIn
+spent-more i core memory = refl
+
+-- an instruction's cycles, and those of i steps after it
+module _ (i : ℕ) (q : Progress) (core : Core) (memory : List ℕ) (b : ℕ) (n : Next q core memory b (costAt memory (visibleOf core))) where
+  time : spent (suc i) core memory ≡ costAt memory (visibleOf core) + spent i (step core memory .core) (step core memory .memory)
+  time =
+      spent-more i core memory ∙ ap (λ (x : ℕ). x + spent i (step core memory .core) (step core memory .memory)) (n .cycles)
+
+  there : cyclesOn (spent (suc i) core memory) q
+      ≡ cyclesOn (spent i (step core memory .core) (step core memory .memory)) (cyclesOn (costAt memory (visibleOf core)) q)
+  there =
+      ap (λ (x : ℕ). cyclesOn x q) time
+      ∙ cycles-add (costAt memory (visibleOf core)) (spent i (step core memory .core) (step core memory .memory)) q
+
+-- a run, cut after the cycles of i steps
+pub record Cut (i t b : ℕ) (q : Progress) : Type 0 where
+  pub within : t ≤ b
+  pub twice : 2 * i ≤ t
+  pub finished : cyclesOn t q .finished ≡ q .finished + i
+  pub due : cyclesOn t q .core .due ≡ 1
+
+pub cut : (i : ℕ) (q : Progress) (core : Core) (memory : List ℕ) (b : ℕ) → Same q core memory b
+    → q .finished + i ≤ cyclesOn b q .finished → Cut i (spent i core memory) b q
+unfolding rowsOf cyclesIn
+cut zero q core memory b s few =
+    record {
+      within = omega arith;
+      twice = omega arith;
+      finished = ap (λ (p : Progress). p .finished) (no-cycle q) ∙ sym (add-zero (q .finished));
+      due = ap (λ (p : Progress). p .core .due) (no-cycle q) ∙ s .due;
+    }
+cut (suc i) q core memory b s few =
+    let c = costAt memory (visibleOf core) in
+    let n = next q core memory b s (omega (arith, few)) in
+    let all = ap (λ (p : Progress). p .finished) (n .rest) in
+    let stepped = step core memory in
+    let ih = cut i (cyclesOn c q) (stepped .core) (stepped .memory) (b - c) (n .same) (omega (arith, few, all, n .finished)) in
+    let t = time i q core memory b n in
+    let on = there i q core memory b n in
+    record {
+      within = omega (arith, ih .within, n .within, t);
+      twice = omega (arith, ih .twice, n .some, t);
+      finished = ap (λ (p : Progress). p .finished) on ∙ (omega (arith, ih .finished, n .finished));
+      due = ap (λ (p : Progress). p .core .due) on ∙ ih .due;
+    }
+
+-- all its cycles
+pub add-up : (i : ℕ) (q : Progress) (core : Core) (memory : List ℕ) (b : ℕ) → Same q core memory b
+    → cyclesOn b q .finished ≡ q .finished + i
+    → q .used + spent i core memory + cyclesOn b q .core .due ≡ cyclesOn b q .used + 1
+unfolding rowsOf cyclesIn
+add-up zero q core memory b s all =
+    ap (λ (n : ℕ). n + cyclesOn b q .core .due) (add-zero (q .used)) ∙ last q core memory b s (all ∙ add-zero (q .finished))
+add-up (suc i) q core memory b s all =
+    let c = costAt memory (visibleOf core) in
+    let n = next q core memory b s (omega (arith, all)) in
+    let stepped = step core memory in
+    let same = ap (λ (p : Progress). p .finished) (n .rest) in
+    let ih = add-up i (cyclesOn c q) (stepped .core) (stepped .memory) (b - c) (n .same) (omega (arith, same, all, n .finished)) in
+    rw (n .rest) (omega (arith, ih, time i q core memory b n, n .used))
+
+-- the row after the first i, as the run has it
+abbrev pub rowAfter : Progress → Progress → List ℕ
+rowAfter before after =
+    before .core .pc
+    ∷ wordAt (before .memory) (before .core .pc)
+    ∷ costAt (before .memory) (visibleOf (before .core))
+    ∷ flagsNumber (after .core .flags)
+    ∷ []
+
+pub row-of : (i : ℕ) (q : Progress) (core : Core) (memory : List ℕ) (b : ℕ) → Same q core memory b
+    → q .finished + i < cyclesOn b q .finished
+    → rowsOf (suc i) core memory
+    ≡ rowsOf i core memory ++ rowAfter (cyclesOn (spent i core memory) q) (cyclesOn (spent (suc i) core memory) q)
+unfolding rowsOf cyclesIn
+row-of zero q core memory b s few =
+    let c = costAt memory (visibleOf core) in
+    let n = next q core memory b s (omega (arith, few)) in
+    let on = there 0 q core memory b n ∙ no-cycle (cyclesOn c q) in
+    let cycles = cost q core memory b s ∙ sym (n .cycles) in
+    sym
+    ((λ j. rowAfter (no-cycle q j) (on j))
+    ∙ (λ j. s .visible j .pc
+    ∷ wordAt (s .words j) (s .visible j .pc)
+    ∷ cycles j
+    ∷ flagsNumber (n .same .visible j .flags)
+    ∷ []))
+row-of (suc i) q core memory b s few =
+    let c = costAt memory (visibleOf core) in
+    let n = next q core memory b s (omega (arith, few)) in
+    let stepped = step core memory in
+    let all = ap (λ (p : Progress). p .finished) (n .rest) in
+    let ih = row-of i (cyclesOn c q) (stepped .core) (stepped .memory) (b - c) (n .same) (omega (arith, few, all, n .finished)) in
+    ap (λ (rows : List ℕ). rowOf core memory stepped ++ rows) ih
+    ∙ sym (λ j. rowsOf (suc i) core memory ++ rowAfter (there i q core memory b n j) (there (suc i) q core memory b n j))

@@ -1,0 +1,6 @@
+-- Laws for the code of `trace`.
+pub mod Bits
+pub mod Rows
+pub mod Findings
+pub mod Cut
+pub mod Theorems

@@ -1,0 +1,75 @@
+-- The theorems of specs/Theorems.antt: from a fresh core steps go where the cycles of the run go.
+use mathlib.Core.Path.{_≡_, refl, sym, ap, _∙_}
+use mathlib.Core.Bool.{Bool, true, false}
+use mathlib.Core.List.{List, [], _∷_, _++_}
+use Prim.Native.Nat.{ℕ, suc, _+_, _*_, _≤_, _<_}
+use native.Mathlib.Numerals.{add-one}
+use native.Mathlib.Omega.{arith}
+use borrow.Author.Tests.{ltb-true}
+use lib.Dec.{ltb, lit≤}
+use lib.ListN.{length}
+use Rattle.core.specs.State.{freshCore}
+use Rattle.core.specs.Calls.{Answer, Reply, Progress, cyclesOn, starting, ranReply, run}
+use Rattle.trace.specs.Trace.{cyclesOf, instructionsOf, rowsOf, noRoom, traceOf, tracedOn}
+use Rattle.trace.specs.Theorems.{cyclesIn, RowsOfTheRun, CyclesAddUp, RoomAlways}
+use Rattle.trace.proofs.Findings.{fresh-run, by-cases}
+use Rattle.trace.proofs.Cut.{Same, Cut, cut, add-up, rowAfter, row-of}
+
+module _ (memory : List ℕ) (size : length memory ≡ 16384) where
+  start : Same (starting freshCore memory) freshCore memory 1000
+  start = record { visible = refl; words = refl; due = refl; one = refl; size = size; room = lit≤ tt }
+
+  whole : run 1000 freshCore memory ≡ ranReply (cyclesOn 1000 (starting freshCore memory))
+  whole = fresh-run 1000 memory size (lit≤ tt)
+
+  count : instructionsOf (run 1000 freshCore memory .answer) ≡ cyclesOn 1000 (starting freshCore memory) .finished
+  count = ap (λ (r : Reply). instructionsOf (r .answer)) whole
+
+  cut-there : (i : ℕ) → i ≤ instructionsOf (run 1000 freshCore memory .answer)
+      → Cut i (cyclesIn (rowsOf i freshCore memory)) 1000 (starting freshCore memory)
+  cut-there i few = cut i (starting freshCore memory) freshCore memory 1000 start (omega (arith, count))
+
+  cut-run : (i : ℕ) → i ≤ instructionsOf (run 1000 freshCore memory .answer)
+      → run (cyclesIn (rowsOf i freshCore memory)) freshCore memory
+      ≡ ranReply (cyclesOn (cyclesIn (rowsOf i freshCore memory)) (starting freshCore memory))
+  cut-run i few = fresh-run (cyclesIn (rowsOf i freshCore memory)) memory size (cut-there i few .within)
+
+  few-instructions : instructionsOf (run 1000 freshCore memory .answer) ≤ 500
+  few-instructions =
+      let c = cut-there (instructionsOf (run 1000 freshCore memory .answer)) (omega arith) in omega (arith, c .within, c .twice)
+
+pub rows-of-the-run : RowsOfTheRun
+rows-of-the-run memory i size = (
+  λ few. let c = cut-there memory size i few in
+      let own = cut-run memory size i few in (
+        c .within,
+        ap (λ (r : Reply). instructionsOf (r .answer)) own ∙ c .finished ∙ (omega arith),
+        ap (λ (r : Reply). r .core .due) own ∙ c .due,
+      ),
+  λ few. rw (add-one, cut-run memory size i (omega arith), cut-run memory size (suc i) (omega arith))
+      (row-of i (starting freshCore memory) freshCore memory 1000 (start memory size) (omega (arith, count memory size))),
+)
+
+pub cycles-add-up : CyclesAddUp
+cycles-add-up memory size =
+    let n = instructionsOf (run 1000 freshCore memory .answer) in
+    let sum = add-up n (starting freshCore memory) freshCore memory 1000 (start memory size) (omega (arith, count memory size)) in
+    let run = whole memory size in
+    omega (arith, sum, ap (λ (r : Reply). r .core .due) run, ap (λ (r : Reply). cyclesOf (r .answer)) run)
+
+-- without room the run has finished more than 500
+no-room-of : (answer : Answer) (memory rows : List ℕ) → traceOf answer memory rows .finding ≡ noRoom → length rows < 4 * instructionsOf answer
+no-room-of answer memory rows = by (ltb (length rows) (4 * instructionsOf answer)) refl
+  where
+    by : (b : Bool) → ltb (length rows) (4 * instructionsOf answer) ≡ b → traceOf answer memory rows .finding ≡ noRoom
+        → length rows < 4 * instructionsOf answer
+    by true h = λ e. ltb-true (length rows) (4 * instructionsOf answer) h
+    by false h = rw h (λ e. absurd (let z : _≡_ {A = ℕ} 0 1 = cc in omega arith))
+
+pub room-always : RoomAlways
+unfolding tracedOn
+room-always listing rows long =
+    by-cases (λ f. f ≡ noRoom → ⊥) listing rows
+    (λ f. let z : _≡_ {A = ℕ} 0 1 = cc in omega arith)
+    (λ number offset f. let z : _≡_ {A = ℕ} 0 1 = cc in omega arith)
+    (λ memory size f. omega (arith, long, few-instructions memory size, no-room-of (run 1000 freshCore memory .answer) memory rows f))
