@@ -5,8 +5,8 @@ mod library;
 #[path = "plain.rs"]
 mod plain;
 
-use library::{registers_of, state_of, ANSWER, CALL, LOAD, RUN};
-use plain::{Answer, Core};
+use library::{answer_of, registers_of, state_of, ANSWER, CALL, LOAD, RUN};
+use plain::Core;
 use std::hint::black_box;
 use std::time::{Duration, Instant};
 
@@ -85,7 +85,7 @@ const PROGRAMS: [(&str, &[u16]); 3] = [
     ),
 ];
 
-/// What a side has at the end of a turn: the numbers of its core, if it shows them, and its memory.
+/// What a side has at the end of a turn: the numbers of its core or answers, and its memory.
 type End = (Vec<u64>, Vec<u16>);
 
 /// Turns of both sides in alternation; the best time of each.
@@ -251,38 +251,38 @@ fn replay(text: &str, words: usize, runs: u32, budget: u32) -> [f64; 2] {
                 &mut answers,
                 &mut at,
             ));
-            let time = start.elapsed();
-            (time, (vec![at, answers[0], answers[1]], memory))
+            (start.elapsed(), (answers, memory))
         },
         || {
             let (mut memory, mut core) = (vec![0; words], Core::fresh());
+            let mut answers = Vec::with_capacity(calls.len() / CALL * ANSWER);
             let start = Instant::now();
             let loaded = black_box(&mut core).load(black_box(text.as_bytes()), &mut memory);
+            answers.extend(answer_of(&loaded));
             for _ in 0..runs {
-                black_box(core.run(black_box(budget), &mut memory));
+                answers.extend(answer_of(&core.run(black_box(budget), &mut memory)));
             }
-            let time = start.elapsed();
-            let Answer::Stored(stored) = loaded else {
-                panic!("{loaded:?}");
-            };
-            (
-                time,
-                (vec![(calls.len() / CALL) as u64, 1, stored as u64], memory),
-            )
+            (start.elapsed(), (answers, memory))
         },
     )
 }
 
 fn main() {
-    println!("Library against plain simulator, best of {TURNS} turns each, in alternation, in one process.");
-    println!("run: one r8_run of {RUN_CYCLES} cycles. run of 1 at a time: {CALLS} calls of r8_run with budget 1.");
-    println!("step: {CALLS} calls of r8_step. replay: one r8_replay of a load and {REPLAYED_RUNS} runs, as many cycles as run.");
-    println!("Both sides have the same program (an endless loop) and {WORDS} words of memory.");
+    println!(
+        "The library against the plain simulator: the same calls on both sides, in alternation."
+    );
+    println!("The best of {TURNS} turns counts. Each program is an endless loop in {WORDS} words.");
+    println!("run: one r8_run of {RUN_CYCLES} cycles");
+    println!("run of 1 at a time: {CALLS} calls of r8_run, budget 1");
+    println!("step: {CALLS} calls of r8_step");
+    println!(
+        "replay: one r8_replay of a load and {REPLAYED_RUNS} runs, {RUN_CYCLES} cycles in all"
+    );
+    println!("load: one r8_replay of a load of 65536 lines into 65536 words");
     println!();
     println!("million cycles a second                           library     plain     ratio");
     programs();
     println!();
-    println!("load: one r8_replay of one load of 65536 lines into 65536 words.");
     println!("million bytes a second                            library     plain     ratio");
     let words: Vec<u16> = (0..=0xFFFF)
         .map(|word: u16| word.wrapping_mul(40_503))

@@ -1,4 +1,5 @@
-//! The library under test: the five functions of its header on slices, and the header's numbers of cores and answers.
+//! The library under test: the five functions of its header on slices, and the header's numbers of
+//! cores and answers.
 #![allow(dead_code)] // each program uses a part of it
 
 use crate::plain::{Answer, Core, Stop};
@@ -28,8 +29,8 @@ extern "C" {
         memory: *mut u16, memory_count: usize, answer: *mut u64, answer_count: usize) -> u32;
 }
 
-// A slice has a pointer that is not null, also when it is empty, and no two that are lent to be written overlap: that is
-// all the header asks.
+// A slice has a pointer that is not null, also when it is empty, and no two that are lent to be
+// written overlap: that is all the header asks.
 
 pub fn replay(
     calls: &[u64],

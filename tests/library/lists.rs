@@ -85,13 +85,14 @@ fn draw_list(rng: &mut Rng) -> (List, Vec<u64>) {
         }
         add(call, &mut core, &mut now);
     }
-    // Half of the lists end with a view, many others amid a store.
-    if rng.one_in(2) {
+    // Half of the lists end with a view, many others amid a store, some as they are.
+    let end = rng.below(8);
+    if end < 4 {
         while core.due != 1 {
             add([RUN, 1, 0], &mut core, &mut now);
         }
         add([VIEW, 0, 0], &mut core, &mut now);
-    } else {
+    } else if end < 7 {
         for _ in 0..20 {
             let word = now.get(core.pc as usize).copied().unwrap_or(0);
             if core.due != 1 || core.stop != Stop::Going {

@@ -1,4 +1,5 @@
-//! A plain simulator of the R8 core, written from document 01 alone: one datapath cycle after the other.
+//! A plain simulator of the R8 core, written from document 01 alone: one datapath cycle after the
+//! other.
 #![allow(dead_code)] // each program uses a part of it
 
 use Op::*;
@@ -439,7 +440,8 @@ fn four_digits(digits: &[u8]) -> Option<u16> {
     Some(value)
 }
 
-/// What r8trace prints: a row for each finished instruction (address, word, cycles, flags after), then the answer.
+/// What r8trace prints: a row for each finished instruction (address, word, cycles, flags after),
+/// then the answer.
 pub fn trace(listing: &[u8]) -> (Vec<[u64; 4]>, Answer) {
     let mut core = Core::fresh();
     let mut memory = vec![0; 16_384];

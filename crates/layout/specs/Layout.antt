@@ -1,9 +1,9 @@
 -- Answers laid out as numbers, for lists of calls given as data and for other languages: 23 for each, the case first, then what it names,
 -- then zeros.
-use mathlib.Core.Bool.{cond}
+use mathlib.Core.Bool.{Bool, cond}
 use mathlib.Core.List.{List, [], _∷_, _++_}
-use Prim.Native.Nat.{ℕ, _+_, _-_, _*_}
-use lib.Dec.{leb}
+use Prim.Native.Nat.{ℕ, _+_, _-_, _*_, _/_, _%_}
+use lib.Dec.{eqb, leb}
 use lib.ListN.{length, drop, replicate}
 use Rattle.words.specs.Arithmetic.{bit}
 use Rattle.isa.specs.declared.Flags.{Flags}
@@ -23,6 +23,13 @@ padded numbers = numbers ++ replicate (answerSize - length numbers) 0
 
 abbrev pub flagsNumber : Flags → ℕ
 flagsNumber f = 8 * bit (f .n) + 4 * bit (f .z) + 2 * bit (f .c) + bit (f .v)
+
+-- back: the flags of a number's last four bits
+abbrev pub isOdd : ℕ → Bool
+isOdd n = eqb (n % 2) 1
+
+abbrev pub flagsOf : ℕ → Flags
+flagsOf n = record { n = isOdd (n / 8); z = isOdd (n / 4); c = isOdd (n / 2); v = isOdd n }
 
 abbrev pub stopNumber : Stop → ℕ
 stopNumber Going = 0

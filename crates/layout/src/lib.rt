@@ -6,7 +6,7 @@ ghost use Rattle.words.specs.Arithmetic.{bit};
 ghost use Rattle.core.specs.Calls.{done, refused, reset, load, run, step, view};
 ghost use Rattle.core.specs.Answers.{refusalNumber, loadAnswerOf, runAnswerOf, viewAnswerOf};
 ghost use Rattle.core.specs.declared.ViewAnswer.the-variants.{Viewed};
-ghost use Rattle.layout.specs.Layout.{padded, flagsNumber, stopNumber, answerNumbers, written, numbered, gave};
+ghost use Rattle.layout.specs.Layout.{padded, flagsNumber, isOdd, flagsOf, stopNumber, answerNumbers, written, numbered, gave};
 use core::Core;
 use core::LoadAnswer;
 use core::Refusal;
@@ -40,6 +40,24 @@ pub fn flags_number(flags: Flags) -> u64
     ensures { λ r. ⌜ r ≡ flagsNumber flags ⌝ }
 {
     8 * bit_of(flags.n) + 4 * bit_of(flags.z) + 2 * bit_of(flags.c) + bit_of(flags.v)
+}
+
+fn is_odd(n: u64) -> bool
+    ensures { λ r. ⌜ r ≡ isOdd n ⌝ }
+{
+    n % 2 == 1
+}
+
+// The flags of such a number, by its last four bits.
+pub fn flags_of(number: u64) -> Flags
+    ensures { λ r. ⌜ r ≡ flagsOf number ⌝ }
+{
+    Flags {
+        n: is_odd(number / 8),
+        z: is_odd(number / 4),
+        c: is_odd(number / 2),
+        v: is_odd(number),
+    }
 }
 
 pub fn stop_number(stop: Stop) -> u64

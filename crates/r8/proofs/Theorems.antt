@@ -14,8 +14,8 @@ use Rattle.effects.specs.declared.Stop.{Stop}
 use Rattle.effects.specs.declared.Stop.the-variants.{Going, Halted, Undefined}
 use Rattle.core.specs.Calls.{Answer, done, stored, ran, viewed, refused, refusedAt, run}
 use Rattle.core.proofs.Again.{run-again}
-use Rattle.layout.specs.Layout.{flagsNumber, stopNumber, answerSize, answerNumbers}
-use Rattle.r8.specs.Numbers.{registersOf, stateOf, isOdd, flagsOf, stopOf, coreOf, isCore}
+use Rattle.layout.specs.Layout.{flagsNumber, isOdd, flagsOf, stopNumber, answerSize, answerNumbers}
+use Rattle.r8.specs.Numbers.{registersOf, stateOf, stopOf, coreOf, isCore}
 use Rattle.r8.specs.Call.{Lent, codeOf, after, called}
 use Rattle.r8.specs.Theorems.{CoreBack, NumbersBack, HeldOn, CallAfterCall, RunInPieces}
 use Rattle.r8.proofs.Lengths.{length-onto}

@@ -1,14 +1,13 @@
 -- A core as numbers: 22 words, R0 to R15, PC, SP, IR, RA, RB, RALU; and four numbers, 8N+4Z+2C+V, stop state, cycle due, clock.
 use mathlib.Core.Bool.{Bool, cond, _&&_}
 use mathlib.Core.List.{List, [], _∷_, _++_}
-use Prim.Native.Nat.{ℕ, _/_, _%_}
+use Prim.Native.Nat.{ℕ}
 use lib.Dec.{eqb, leb}
 use lib.ListN.{length, getD, take}
-use Rattle.isa.specs.declared.Flags.{Flags}
 use Rattle.effects.specs.declared.Stop.{Stop}
 use Rattle.effects.specs.declared.Stop.the-variants.{Going, Halted, Undefined}
 use Rattle.core.specs.declared.Core.{Core}
-use Rattle.layout.specs.Layout.{flagsNumber, stopNumber}
+use Rattle.layout.specs.Layout.{flagsNumber, flagsOf, stopNumber}
 
 abbrev pub registersSize : ℕ
 registersSize = 22
@@ -24,12 +23,6 @@ abbrev pub stateOf : Core → List ℕ
 stateOf core = flagsNumber (core .flags) ∷ stopNumber (core .stop) ∷ core .due ∷ core .clock .0 ∷ []
 
 -- back: that nothing is lost is said in Theorems
-abbrev pub isOdd : ℕ → Bool
-isOdd n = eqb (n % 2) 1
-
-abbrev pub flagsOf : ℕ → Flags
-flagsOf n = record { n = isOdd (n / 8); z = isOdd (n / 4); c = isOdd (n / 2); v = isOdd n }
-
 abbrev pub stopOf : ℕ → Stop
 stopOf n = cond (eqb n 0) Going (cond (eqb n 1) Halted Undefined)
 

@@ -4,9 +4,9 @@ ghost use Prim.Native.Nat.{_≤_};
 ghost use lib.ListN.{length, take, getD};
 ghost use Rattle.core.specs.Calls.{run, step};
 ghost use Rattle.core.specs.Answers.{runAnswerOf};
-ghost use Rattle.layout.specs.Layout.{answerNumbers};
+ghost use Rattle.layout.specs.Layout.{flagsOf, answerNumbers};
 ghost use Rattle.r8.specs.Slices.{onto};
-ghost use Rattle.r8.specs.Numbers.{isOdd, flagsOf, stopOf, coreOf, registersOf, stateOf, isCore};
+ghost use Rattle.r8.specs.Numbers.{stopOf, coreOf, registersOf, stateOf, isCore};
 ghost use Rattle.r8.specs.Call.{codeOf, lent, called};
 use core::Core;
 use core::RunReply;
@@ -14,21 +14,10 @@ use effects::Stop;
 use isa::Cycles;
 use isa::Flags;
 
-fn is_odd(n: u32) -> bool
-    ensures { λ r. ⌜ r ≡ isOdd n ⌝ }
-{
-    n % 2 == 1
-}
-
 fn flags_of(n: u32) -> Flags
     ensures { λ r. ⌜ r ≡ flagsOf n ⌝ }
 {
-    Flags {
-        n: is_odd(n / 8),
-        z: is_odd(n / 4),
-        c: is_odd(n / 2),
-        v: is_odd(n),
-    }
+    layout::flags_of(n as u64)
 }
 
 fn stop_of(n: u32) -> Stop

@@ -62,7 +62,7 @@ fn row_text(rows: &[u64; 2000], at: usize) -> [u8; 17]
     let address = (rows[at] % 65536) as u16;
     let word = (rows[at + 1] % 65536) as u16;
     let cycles = Cycles((rows[at + 2] % 4294967296) as u32);
-    text::line_text(address, word, cycles, trace::flags_of(rows[at + 3]))
+    text::line_text(address, word, cycles, layout::flags_of(rows[at + 3]))
 }
 
 // Puts the lines of so many rows on the page, and answers the place after them.

@@ -20,7 +20,8 @@ use Rattle.core.specs.declared.Core.{Core}
 use Rattle.core.proofs.Cycles.{no-cycle, one-more, none-more, cycles-add, only-going, cost-range}
 use Rattle.core.proofs.OneInstruction.{one-instruction}
 use Rattle.core.proofs.Replies.{passed, none-left, step-starts, applied-length}
-use Rattle.trace.specs.Trace.{flagsNumber, cyclesOf, rowOf, rowsOf}
+use Rattle.layout.specs.Layout.{flagsNumber}
+use Rattle.trace.specs.Trace.{cyclesOf, rowOf, rowsOf}
 use Rattle.trace.specs.Theorems.{cyclesIn}
 
 -- instructions finished stay finished

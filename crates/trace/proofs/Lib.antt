@@ -1,5 +1,4 @@
 -- Laws for the code of `trace`.
-pub mod Bits
 pub mod Rows
 pub mod Findings
 pub mod Cut

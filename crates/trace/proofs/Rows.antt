@@ -9,7 +9,8 @@ use lib.Seq.{sets-eq, length-take-le, take-at, drop-at, drop-drop}
 use Rattle.words.specs.Memory.{wordAt}
 use Rattle.core.specs.Calls.{Reply, step}
 use Rattle.core.specs.declared.Core.{Core}
-use Rattle.trace.specs.Trace.{flagsNumber, cyclesOf, rowOf, rowsOf}
+use Rattle.layout.specs.Layout.{flagsNumber}
+use Rattle.trace.specs.Trace.{cyclesOf, rowOf, rowsOf}
 
 -- rows with one written over, from a place on
 abbrev pub written : ℕ → List ℕ → List ℕ → List ℕ

@@ -8,7 +8,8 @@ use Rattle.words.specs.Memory.{wordAt}
 use Rattle.core.specs.State.{visibleOf, freshCore}
 use Rattle.core.specs.Instruction.{costAt}
 use Rattle.core.specs.Calls.{Reply, run}
-use Rattle.trace.specs.Trace.{flagsNumber, cyclesOf, instructionsOf, rowsOf, noRoom, traced}
+use Rattle.layout.specs.Layout.{flagsNumber}
+use Rattle.trace.specs.Trace.{cyclesOf, instructionsOf, rowsOf, noRoom, traced}
 
 -- the cycles of some rows: the third number of each
 unfoldable pub cyclesIn : List ℕ → ℕ

@@ -4,19 +4,14 @@ use mathlib.Core.List.{List, [], _∷_, _++_}
 use Prim.Native.Nat.{ℕ, zero, suc, _+_, _*_}
 use lib.Dec.{ltb}
 use lib.ListN.{length, drop, replicate}
-use Rattle.words.specs.Arithmetic.{bit}
 use Rattle.words.specs.Memory.{wordAt}
-use Rattle.isa.specs.declared.Flags.{Flags}
 use Rattle.listing.specs.Answers.{faultNumber}
 use Rattle.core.specs.State.{freshCore}
 use Rattle.core.specs.Calls.{Answer, done, stored, ran, viewed, refused, refusedAt, Reply, load, run, step}
 use Rattle.core.specs.declared.Core.{Core}
+use Rattle.layout.specs.Layout.{flagsNumber}
 use Rattle.trace.specs.declared.TraceAnswer.{TraceAnswer}
 use Rattle.trace.specs.declared.TraceAnswer.the-variants.{Traced, Faulty, TooLong, NoRoom}
-
--- NZCV as one number of four bits
-abbrev pub flagsNumber : Flags → ℕ
-flagsNumber f = 8 * bit (f .n) + 4 * bit (f .z) + 2 * bit (f .c) + bit (f .v)
 
 -- the cycles and the instructions of an answer to a run or a step; of another answer, none
 abbrev pub cyclesOf : Answer → ℕ

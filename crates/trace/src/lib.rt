@@ -1,18 +1,16 @@
 // The trace of a listing, as numbers: what the program r8trace writes as text.
 ghost use mathlib.Core.Path.{_≡_};
 ghost use mathlib.Core.List.{_∷_, [], _++_};
-ghost use Prim.Native.Nat.{_+_, _*_, _%_, _≤_};
+ghost use Prim.Native.Nat.{_+_, _*_, _≤_};
 ghost use lib.ListN.{length, take, drop};
-ghost use Rattle.words.specs.Arithmetic.{bit};
 ghost use Rattle.core.specs.Answers.{runAnswerOf};
-ghost use Rattle.trace.specs.Trace.{flagsNumber, cyclesOf, rowsOf, tracedOn, traced, traceGave};
+ghost use Rattle.trace.specs.Trace.{cyclesOf, rowsOf, tracedOn, traced, traceGave};
 use core::Core;
 use core::End;
 use core::Instructions;
 use core::LoadAnswer;
 use core::RunAnswer;
 use isa::Cycles;
-use isa::Flags;
 use listing::Fault;
 
 // What a trace finds: the totals of the run; or the listing's first fault and the offset of its line's start; or that the listing has more
@@ -26,31 +24,6 @@ pub enum TraceAnswer {
     Faulty(Fault, usize),
     TooLong,
     NoRoom,
-}
-
-fn bit_of(set: bool) -> u64
-    ensures { λ r. ⌜ (r ≡ bit set) × (r ≤ 1) ⌝ }
-{
-    if set { 1 } else { 0 }
-}
-
-// NZCV as one number: N is 8, Z 4, C 2, V 1.
-pub fn flags_number(flags: Flags) -> u64
-    ensures { λ r. ⌜ r ≡ flagsNumber flags ⌝ }
-{
-    8 * bit_of(flags.n) + 4 * bit_of(flags.z) + 2 * bit_of(flags.c) + bit_of(flags.v)
-}
-
-// The flags of such a number, by its last four bits.
-pub fn flags_of(number: u64) -> Flags
-    ensures { λ r. ⌜ flagsNumber r ≡ number % 16 ⌝ }
-{
-    Flags {
-        n: number / 8 % 2 == 1,
-        z: number / 4 % 2 == 1,
-        c: number / 2 % 2 == 1,
-        v: number % 2 == 1,
-    }
 }
 
 // The cycles that a step used. A refused step counts as 0.
@@ -93,7 +66,7 @@ fn put_rows(rows: &mut [u64], mut core: Core, count: u32, memory: &mut [u16])
         let answer = stepped.answer;
         let cycles = cycles_of(answer);
         let flags = next.flags;
-        put_row(rows, at, address, word, cycles, flags_number(flags));
+        put_row(rows, at, address, word, cycles, layout::flags_number(flags));
         at += 4;
         core = next;
         left -= 1;
@@ -130,7 +103,7 @@ fn trace_memory(memory: [u16; 16384], rows: &mut [u64]) -> TraceAnswer
 }
 
 // Loads a listing into 16,384 zero words, runs a fresh core for 1,000 cycles, and puts four numbers into the rows for each instruction
-// finished: address, word, cycles, and the flags after it as `flags_number` gives them.
+// finished: address, word, cycles, and the flags after it as `layout::flags_number` gives them.
 pub fn trace(listing: &[u8], rows: &mut [u64]) -> TraceAnswer
     ensures { λ r. ⌜ traceGave r (now (rows .exit)) ≡ traced (now (listing .entry)) (now (rows .entry)) ⌝ }
 {

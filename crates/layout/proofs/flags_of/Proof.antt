@@ -1,7 +1,7 @@
--- `r8::call::flags_of` meets its contract: bit by bit. Assumes nothing.
+-- `layout::flags_of` meets its contract: bit by bit. Assumes nothing.
 use borrow.Author.Needs.{needs}
-use Rattle.r8.proofs.call.flags_of.Statement.{statement}
-use Rattle.r8.proofs.call.flags_of.Tie as tie
+use Rattle.layout.proofs.flags_of.Statement.{statement}
+use Rattle.layout.proofs.flags_of.Tie as tie
 
 is-odd-requires : tie.Need-is-odd-requires
 is-odd-requires c κs = search needs
