@@ -134,7 +134,7 @@ fn main() {
         TraceAnswer::TooLong => {
             io::write_all(1, b"too long\n");
         }
-        // does not arise: an instruction has 2 cycles or more, so 1,000 cycles finish at most 500
+        // does not arise: 2,000 numbers have room for every trace (theorem `RoomAlways` of `trace`)
         TraceAnswer::NoRoom => {
             io::write_all(1, b"no room\n");
         }

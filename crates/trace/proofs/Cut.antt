@@ -1,19 +1,18 @@
 -- Laws of a run that is cut between instructions: steps go where its cycles go.
 use mathlib.Core.Path.{_≡_, refl, sym, ap, _∙_}
+use mathlib.Core.Logic.{_⊎_, inl, inr}
 use mathlib.Core.Bool.{Bool, true, false, not}
 use mathlib.Core.List.{List, [], _∷_, _++_}
 use Prim.Native.Nat.{ℕ, zero, suc, _+_, _-_, _*_, _≤_, _<_}
 use native.Mathlib.Omega.{arith}
-use native.Mathlib.Nat.{zero-add, add-zero}
+use native.Mathlib.Nat.{add-zero}
 use borrow.Author.Tests.{eq-eqb, le-ltb, leb-true, leb-false}
 use lib.Dec.{leb}
 use lib.ListN.{length}
 use Rattle.words.specs.Memory.{wordAt}
-use Rattle.words.specs.Arithmetic.{bit}
 use Rattle.effects.specs.declared.Stop.the-variants.{Going}
-use Rattle.core.specs.State.{Visible, visibleOf, freshCore}
+use Rattle.core.specs.State.{Visible, visibleOf}
 use Rattle.core.specs.Instruction.{after, memoryAfter, costAt, instructed}
-use Rattle.core.specs.Datapath.{cycled}
 use Rattle.core.specs.Numbers.{wrongLength, isGoing, runNumber}
 use Rattle.core.specs.Calls.{Reply, Progress, advanced, cyclesOn, steppedReply, dueOne, step}
 use Rattle.core.specs.declared.Core.{Core}
@@ -45,7 +44,7 @@ pub record Same (q : Progress) (core : Core) (memory : List ℕ) (b : ℕ) : Typ
   pub room : core .clock .0 + b + 4 ≤ 4294967295
 
 -- and after one instruction more, of c cycles
-pub record Next (q : Progress) (core : Core) (memory : List ℕ) (b c : ℕ) : Type 0 where
+record Next (q : Progress) (core : Core) (memory : List ℕ) (b c : ℕ) : Type 0 where
   pub cycles : cyclesOf (step core memory .answer) ≡ c
   pub some : 2 ≤ c
   pub within : c ≤ b
@@ -53,6 +52,11 @@ pub record Next (q : Progress) (core : Core) (memory : List ℕ) (b c : ℕ) : T
   pub finished : cyclesOn c q .finished ≡ q .finished + 1
   pub used : cyclesOn c q .used ≡ q .used + c
   pub rest : cyclesOn b q ≡ cyclesOn (b - c) (cyclesOn c q)
+
+-- or after the cycles left, with no instruction more
+record Last (q : Progress) (b : ℕ) : Type 0 where
+  finished : cyclesOn b q .finished ≡ q .finished
+  used : q .used + cyclesOn b q .core .due ≡ cyclesOn b q .used + 1
 
 module _ (q : Progress) (core : Core) (memory : List ℕ) (b : ℕ) (s : Same q core memory b) where
   cost : costAt (q .memory) (visibleOf (q .core)) ≡ costAt memory (visibleOf core)
@@ -99,36 +103,37 @@ module _ (q : Progress) (core : Core) (memory : List ℕ) (b : ℕ) (s : Same q 
         rest = ap (λ (n : ℕ). cyclesOn n q) {y = c + (b - c)} (omega arith) ∙ cycles-add c (b - c) q;
       }
 
-  -- with an instruction finished in the cycles left, the core is going and they are enough for the first
-  pub next : q .finished < cyclesOn b q .finished → Next q core memory b (costAt memory (visibleOf core))
-  next more = by (isGoing (q .core .stop)) (leb (costAt memory (visibleOf core)) b) refl refl
+  -- the cycles left are enough for it; or they are spent in it, or the core is stopped
+  one-way : Next q core memory b (costAt memory (visibleOf core)) ⊎ Last q b
+  one-way = by (isGoing (q .core .stop)) (leb (costAt memory (visibleOf core)) b) refl refl
     where
       by : (g w : Bool) → isGoing (q .core .stop) ≡ g → leb (costAt memory (visibleOf core)) b ≡ w
-          → Next q core memory b (costAt memory (visibleOf core))
-      by false w g h = absurd (omega (arith, more, ap (λ (p : Progress). p .finished) (none-more b q g)))
-      by true true g h = taken (only-going (q .core .stop) g) (leb-true (costAt memory (visibleOf core)) b h)
+          → Next q core memory b (costAt memory (visibleOf core)) ⊎ Last q b
+      by false w g h =
+          let none = none-more b q g in
+          inr (record { finished = rw none refl; used = rw none (ap (λ (n : ℕ). q .used + n) (s .due)) })
+      by true true g h = inl (taken (only-going (q .core .stop) g) (leb-true (costAt memory (visibleOf core)) b h))
       by true false g h =
           let short = leb-false (costAt memory (visibleOf core)) b h in
           let m = one-instruction q (only-going (q .core .stop) g) (s .due) .0 b (omega (arith, cost, short)) in
-          absurd (omega (arith, more, m .finished))
+          inr (record { finished = m .finished; used = omega (arith, m .due, m .used) })
 
-  -- with none, the cycles left are spent in an unfinished one, or the core is stopped
-  last : cyclesOn b q .finished ≡ q .finished → q .used + cyclesOn b q .core .due ≡ cyclesOn b q .used + 1
-  last none = by (isGoing (q .core .stop)) (leb (costAt memory (visibleOf core)) b) refl refl
+  next : q .finished < cyclesOn b q .finished → Next q core memory b (costAt memory (visibleOf core))
+  next more = by one-way
     where
-      by : (g w : Bool) → isGoing (q .core .stop) ≡ g → leb (costAt memory (visibleOf core)) b ≡ w
-          → q .used + cyclesOn b q .core .due ≡ cyclesOn b q .used + 1
-      by false w g h = rw (none-more b q g) (ap (λ (n : ℕ). q .used + n) (s .due))
-      by true true g h =
-          let n = taken (only-going (q .core .stop) g) (leb-true (costAt memory (visibleOf core)) b h) in
+      by : Next q core memory b (costAt memory (visibleOf core)) ⊎ Last q b → Next q core memory b (costAt memory (visibleOf core))
+      by (inl n) = n
+      by (inr l) = absurd (omega (arith, more, l .finished))
+
+  last : cyclesOn b q .finished ≡ q .finished → Last q b
+  last none = by one-way
+    where
+      by : Next q core memory b (costAt memory (visibleOf core)) ⊎ Last q b → Last q b
+      by (inl n) =
           let c = costAt memory (visibleOf core) in
-          let more = grows (b - c) (cyclesOn c q) in
           let all = ap (λ (p : Progress). p .finished) (n .rest) in
-          absurd (omega (arith, more, all, none, n .finished))
-      by true false g h =
-          let short = leb-false (costAt memory (visibleOf core)) b h in
-          let m = one-instruction q (only-going (q .core .stop) g) (s .due) .0 b (omega (arith, cost, short)) in
-          omega (arith, m .due, m .used)
+          absurd (omega (arith, grows (b - c) (cyclesOn c q), all, none, n .finished))
+      by (inr l) = l
 
 -- the cycles of so many steps
 abbrev spent : ℕ → Core → List ℕ → ℕ
@@ -189,7 +194,7 @@ pub add-up : (i : ℕ) (q : Progress) (core : Core) (memory : List ℕ) (b : ℕ
     → q .used + spent i core memory + cyclesOn b q .core .due ≡ cyclesOn b q .used + 1
 unfolding rowsOf cyclesIn
 add-up zero q core memory b s all =
-    ap (λ (n : ℕ). n + cyclesOn b q .core .due) (add-zero (q .used)) ∙ last q core memory b s (all ∙ add-zero (q .finished))
+    ap (λ (n : ℕ). n + cyclesOn b q .core .due) (add-zero (q .used)) ∙ last q core memory b s (all ∙ add-zero (q .finished)) .used
 add-up (suc i) q core memory b s all =
     let c = costAt memory (visibleOf core) in
     let n = next q core memory b s (omega (arith, all)) in

@@ -1,10 +1,10 @@
 -- Laws of findings: a fresh core on 16,384 words is never refused with 1, 7, 8 or 9, and what the run's answer makes of the rows.
 use mathlib.Core.Path.{_≡_, refl, sym, ap, _∙_}
-use mathlib.Core.Bool.{Bool, true, false, cond}
+use mathlib.Core.Bool.{Bool, true, false}
 use mathlib.Core.List.{List, _++_}
 use Prim.Native.Nat.{ℕ, _+_, _-_, _*_, _≤_, _<_}
 use native.Mathlib.Omega.{arith}
-use borrow.Author.Tests.{lt-ltb, le-ltb, ltb-false}
+use borrow.Author.Tests.{lt-ltb, le-ltb, ltb-true, ltb-false}
 use lib.Dec.{ltb}
 use lib.ListN.{length, drop, replicate, length-replicate}
 use Rattle.lines.specs.Lines.{lines}
@@ -134,42 +134,41 @@ module _ (listing rows : List ℕ) (h : length listing ≤ 65536) (reply : LoadR
       let said = ap (λ (x : Reply). x .answer) loaded in
       never (refusalNumber why) (listingAnswer listing (length (replicate {A = ℕ} 16384 0))) (sym own ∙ sym said ∙ ap loadAnswerOf a)
 
--- a finding is one of these: too long, a fault of the lines, or what a run on the loaded memory finds
-pub by-cases : (P : Finding → Type 0) (listing rows : List ℕ) → P tooLong
-    → ((number offset : ℕ) → P (answered (refusedAt number offset)))
-    → ((memory : List ℕ) → length memory ≡ 16384 → P (tracedOn memory rows .finding)) → P (traced listing rows .finding)
-unfolding traced
-by-cases P listing rows long at-line found = by (ltb 65536 (length listing)) refl
-  where
-    after : (answer : lines-answer.Answer) (memory : List ℕ) → length memory ≡ 16384
-        → P (afterLoad (record { answer = loadAnswer answer; core = freshCore; memory = memory }) rows .finding)
-    after (lines-answer.stored count) memory size = found memory size
-    after (lines-answer.refused number offset) memory size = at-line number offset
+-- a finding is one of these: too long, a fault of the lines, or what a run on the loaded memory finds, without room or with
+module _ (P : Finding → Type 0) (listing rows : List ℕ) (long : P tooLong)
+    (at-line : (number offset : ℕ) → P (answered (refusedAt number offset)))
+    (without : (memory : List ℕ) → length memory ≡ 16384 → length rows < 4 * instructionsOf (run 1000 freshCore memory .answer) → P noRoom)
+    (within : (memory : List ℕ) → 4 * instructionsOf (run 1000 freshCore memory .answer) ≤ length rows
+    → P (answered (run 1000 freshCore memory .answer))) where
+  by-room : (memory : List ℕ) (lacks : Bool) → ltb (length rows) (4 * instructionsOf (run 1000 freshCore memory .answer)) ≡ lacks
+      → length memory ≡ 16384 → P (tracedOn memory rows .finding)
+  unfolding tracedOn
+  by-room memory true h size = rw h (without memory size (ltb-true _ _ h))
+  by-room memory false h size = rw h (within memory (ltb-false _ _ h))
 
-    by : (b : Bool) → ltb 65536 (length listing) ≡ b → P (traced listing rows .finding)
-    by true h = rw h long
-    by false h =
-        rw (h, load-taken listing) (after (listingAnswer listing (length (replicate {A = ℕ} 16384 0)))
-        (listingMemory listing (replicate 16384 0)) (length-loaded listing (replicate 16384 0) ∙ length-replicate {A = ℕ} 16384 0))
+  by-lines : (answer : lines-answer.Answer) (memory : List ℕ) → length memory ≡ 16384
+      → P (afterLoad (record { answer = loadAnswer answer; core = freshCore; memory = memory }) rows .finding)
+  by-lines (lines-answer.stored count) memory size = by-room memory _ refl size
+  by-lines (lines-answer.refused number offset) memory size = at-line number offset
+
+  by-length : (b : Bool) → ltb 65536 (length listing) ≡ b → P (traced listing rows .finding)
+  unfolding traced
+  by-length true h = rw h long
+  by-length false h =
+      rw (h, load-taken listing) (by-lines (listingAnswer listing (length (replicate {A = ℕ} 16384 0)))
+      (listingMemory listing (replicate 16384 0)) (length-loaded listing (replicate 16384 0) ∙ length-replicate {A = ℕ} 16384 0))
+
+  pub by-cases : P (traced listing rows .finding)
+  by-cases = by-length (ltb 65536 (length listing)) refl
 
 -- where totals are answered there was room for the rows
-room-of : (answer : Answer) (memory rows : List ℕ) (used finished : ℕ) (end : End)
-    → traceOf answer memory rows .finding ≡ answered (ran used finished end) → 4 * finished ≤ length rows
-room-of answer memory rows used finished end = by (ltb (length rows) (4 * instructionsOf answer)) refl
-  where
-    by : (b : Bool) → ltb (length rows) (4 * instructionsOf answer) ≡ b
-        → traceOf answer memory rows .finding ≡ answered (ran used finished end) → 4 * finished ≤ length rows
-    by true h = rw h (λ e. absurd (let z : _≡_ {A = ℕ} 0 1 = cc in omega arith))
-    by false h =
-        rw h (λ e. let same : answer ≡ ran used finished end = cc in
-        omega (arith, ltb-false (length rows) (4 * instructionsOf answer) h, ap instructionsOf same))
-
 pub room-held : (listing rows next : List ℕ) (answer : TraceAnswer) (cycles : Cycles) (instructions : Instructions) (end : End)
     → traceGave answer next ≡ traced listing rows → answer ≡ Traced cycles instructions end → 4 * instructions .0 ≤ length rows
-unfolding tracedOn
 room-held listing rows next answer cycles instructions end e a =
     by-cases (λ f. f ≡ answered (ran (cycles .0) (instructions .0) end) → 4 * instructions .0 ≤ length rows) listing rows
     (λ f. absurd (let z : _≡_ {A = ℕ} 0 1 = cc in omega arith))
     (λ number offset f. absurd (let z : _≡_ {A = ℕ} 0 1 = cc in omega arith))
-    (λ memory size. room-of (run 1000 freshCore memory .answer) memory rows (cycles .0) (instructions .0) end)
+    (λ memory size h f. absurd (let z : _≡_ {A = ℕ} 0 1 = cc in omega arith))
+    (λ memory h f. let same : run 1000 freshCore memory .answer ≡ ran (cycles .0) (instructions .0) end = cc in
+    omega (arith, h, ap instructionsOf same))
     (sym (ap (λ (t : Trace). t .finding) e) ∙ ap findingOf a)

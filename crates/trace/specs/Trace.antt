@@ -51,18 +51,19 @@ rowsOf (suc n) core memory =
     let stepped : Reply = step core memory in
     rowOf core memory stepped ++ rowsOf n (stepped .core) (stepped .memory)
 
--- what is found: the answer of the run, or of the load where that is refused; or that the listing is too long, or that the rows have no room
+-- what is found: the answer of the run, or of the load where that is refused; or that the listing is too long, or that there is no room for
+-- the rows
 pub data Finding : Type 0 where
   answered : Answer → Finding
   tooLong : Finding
   noRoom : Finding
 
--- it, and the rows as they are then
+-- it, and the rows as they then are
 pub record Trace : Type 0 where
   pub finding : Finding
   pub rows : List ℕ
 
--- a row for each instruction that a run finished; what is past them stays as it was
+-- a row for each instruction that a run finished; what is past them stays as it was, and so does all where they have no room
 abbrev pub traceOf : Answer → List ℕ → List ℕ → Trace
 traceOf answer memory rows =
     let count : ℕ = instructionsOf answer in
@@ -84,8 +85,8 @@ traced listing rows =
     cond (ltb 65536 (length listing)) (record { finding = tooLong; rows = rows })
     (afterLoad (load listing freshCore (replicate 16384 0)) rows)
 
--- what the code gives back, with the rows as they are then. Of refusals only those of lines are among its cases: that it equals `traced`
--- says that no other arises
+-- what the code gives back, read so. It has cases for the refusals of lines alone: that it is what `traced` says means that no other
+-- refusal arises
 abbrev pub findingOf : TraceAnswer → Finding
 findingOf (Traced cycles instructions end) = answered (ran (cycles .0) (instructions .0) end)
 findingOf (Faulty fault offset) = answered (refusedAt (faultNumber fault) offset)
