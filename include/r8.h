@@ -1,58 +1,75 @@
 /* The R8 simulator for other languages: link libr8.a (`rt staticlib r8` writes target/staticlib/libr8.a).
  *
- * Each slice is passed as a pointer, not null, and a count of elements. No two of those that a call can write may overlap. What a call
- * refuses it leaves unchanged, but for *at of r8_replay. 'Document 01' numbers are those of README's table. */
+ * A slice is passed as a pointer and a count of elements. No pointer may be null, also where the count is 0. What a function can write (a
+ * slice without const, and *at) may overlap nothing else that it is given. A function that returns another number than 0 changes nothing,
+ * but for *at of r8_replay. 'Number' means a refusal's number of document 01: README has the table. */
 #ifndef R8_H
 #define R8_H
 #include <stddef.h>
 #include <stdint.h>
+#ifdef __cplusplus
+extern "C" {
+#endif
 
-/* A call is three numbers: the case, then two that are ignored where the case does not name them. */
+/* A call is three numbers: the case, then two, called first and second; those that a case does not name are ignored. */
 #define R8_CALL 3
 #define R8_RESET 0
-#define R8_LOAD 1 /* of the bytes first .. second of the text, second not included */
-#define R8_RUN 2  /* of first cycles, at most 4,294,967,295 */
+#define R8_LOAD 1 /* of the bytes of the text from first up to second, which is not included */
+#define R8_RUN 2  /* first is the budget in cycles, at most 4,294,967,295 */
 #define R8_STEP 3
 #define R8_VIEW 4
 
 /* An answer is 23 numbers: the case, then what it names, then zeros. */
 #define R8_ANSWER 23
 #define R8_DONE 0       /* of a reset */
-#define R8_STORED 1     /* words stored by a load */
+#define R8_STORED 1     /* of a load: how many words were stored */
 #define R8_RAN 2        /* of a run or a step: cycles used, instructions finished, end letter (its ASCII code) */
 #define R8_VIEWED 3     /* R0 to R15, PC, SP, 8N+4Z+2C+V, stop state (0 going, 1 halted, 2 undefined), cycle due, clock */
-#define R8_REFUSED 4    /* document 01's number: 1, 7, 8 or 9 */
-#define R8_REFUSED_AT 5 /* document 01's number, 2, 3 or 4, and the offset of the faulty line in the stretch that was loaded */
+#define R8_REFUSED 4    /* number 1, 7, 8 or 9 */
+#define R8_REFUSED_AT 5 /* number 2, 3 or 4, then where the faulty line starts, counted from the start of what was to be loaded */
 
-/* Plays calls on a fresh core and the lent memory, and writes an answer for each from answers[0] on; what is past them stays. Returns 0
- * and *at is how many calls were played; or 1 where the call *at (from 0) is none of the five (a case above 4, a budget above 32 bits, or
- * fewer than three numbers), 2 where the load *at names no stretch of the text (first above second, or second past the end), 3 where the
- * answers are too short, and *at is 0. 1 and 2 are told of the first such call, before 3. */
+/* Plays calls on a fresh core and the lent memory, one after the other, refused ones too, and writes the answer of each from answers[0]
+ * on; what is past them stays. A memory of 0 or of more than 65,536 words is taken: its loads, runs and steps answer number 1.
+ * Returns 0, and *at is how many calls were played; or, with *at the index, from 0, of the first faulty call,
+ *   1 where that is no call: its case is above 4, its budget above 4,294,967,295, or fewer than three numbers are left;
+ *   2 where it is a load of no stretch of the text: first is above second, or second above text_count;
+ * or 3, with 0 in *at, where the answers are shorter than 23 numbers a call. 1 and 2 come before 3. */
 uint32_t r8_replay(const uint64_t *calls, size_t calls_count, const uint8_t *text, size_t text_count,
                    uint16_t *memory, size_t memory_count, uint64_t *answers, size_t answers_count, uint64_t *at);
 
-/* What the program r8trace prints, as numbers: a listing of at most 65,536 bytes is loaded into 16,384 zero words and a fresh core runs for
- * 1,000 cycles. Each finished instruction has a row of four numbers: address, word, cycles, 8N+4Z+2C+V after. answer is as above:
- * R8_RAN, with as many rows as instructions, or R8_REFUSED_AT and no row. What is past the rows, and past 23 numbers of answer, stays. Returns 0; or
- * 1 where the listing is longer, 2 where the rows or the answer are too short. 2,000 numbers are room enough for the rows. */
+/* What the program r8trace finds, as numbers: a listing of at most 65,536 bytes is loaded into 16,384 zero words, and a fresh core runs
+ * for 1,000 cycles, fewer if it stops. Each finished instruction has a row of four numbers: address, word, cycles, 8N+4Z+2C+V after. The
+ * answer is R8_RAN, with as many rows as instructions, or R8_REFUSED_AT, with none. What is past the rows, and past the 23 numbers of the
+ * answer, stays. Returns 0; or, the first that applies,
+ *   1 where the listing is longer; 2 where the answer is shorter than 23 numbers;
+ *   2 where the rows are shorter than four numbers for each finished instruction (2,000 are always enough). */
 #define R8_ROW 4
 uint32_t r8_trace(const uint8_t *listing, size_t listing_count, uint64_t *rows, size_t rows_count,
                   uint64_t *answer, size_t answer_count);
 
-/* The form of a word in seven numbers: which instruction, from 0 (ADD) to 39 (JSRD) in the order of document 01's table, then t, a, b, k,
- * d10, d12, those that it does not have zero; a displacement is a word of 16 bits (cast it to int16_t). Numbers past the seventh stay.
- * Returns 0; or 1 where the word is undefined (document 01's number 6), 2 where form is shorter than seven. 2 comes first. */
+/* The form of a word in seven numbers: which instruction, then t, a, b, k, d10, d12, those that it does not have zero; a displacement is a
+ * word of 16 bits (cast it to int16_t). The instructions are numbered in the order of document 01's table:
+ *    0 ADD     1 SUB     2 AND     3 OR      4 XOR     5 ADDI    6 SUBI    7 LDL     8 LDH     9 LD
+ *   10 ST     11 SL0    12 SL1    13 SR0    14 SR1    15 NOT    16 NOP    17 HALT   18 LDSP   19 RTS
+ *   20 POP    21 PUSH   22 JMPR   23 JMPNR  24 JMPZR  25 JMPCR  26 JMPVR  27 JMP    28 JMPN   29 JMPZ
+ *   30 JMPC   31 JMPV   32 JSRR   33 JSR    34 JMPD   35 JMPND  36 JMPZD  37 JMPCD  38 JMPVD  39 JSRD
+ * What is past the seventh number stays. Returns 0; or 2 where form is shorter than seven, 1 where the word is undefined (number 6). 2
+ * comes first. */
 #define R8_FORM 7
 uint32_t r8_form(uint16_t word, uint16_t *form, size_t form_count);
 
-/* One run, or one step, of a core given as numbers, also one that no call made. registers has 22 words: R0 to R15, PC, SP, IR, RA, RB, RALU.
- * state has four numbers: 8N+4Z+2C+V, stop state, cycle due (0 to 255), clock. Both become the next core's; answer is as above. Returns 0, also
- * where the answer is a refusal; or 1 where registers or state are of another length or hold a number that no core has (flags above 15, stop state above
- * 2, cycle due above 255), 2 where answer is shorter than 23. 1 comes first. */
+/* One run of b cycles, or one step, of a core given as numbers, also one that no call made. registers has 22 words: R0 to R15, PC, SP, IR,
+ * RA, RB, RALU. state has four numbers: 8N+4Z+2C+V, stop state, cycle due (0 to 255), clock. Both become the next core's, and the answer
+ * is written to the first 23 numbers of answer; what is past them stays. Returns 0, also where the answer is a refusal (a cycle due
+ * outside 1 to 4 is answered R8_REFUSED, 7); or 1 where registers are not 22, state is not four, or state has flags above 15, a stop
+ * state above 2 or a cycle due above 255; or 2 where answer is shorter than 23. 1 comes first. */
 #define R8_REGISTERS 22
 #define R8_STATE 4
 uint32_t r8_run(uint16_t *registers, size_t registers_count, uint32_t *state, size_t state_count, uint32_t b,
                 uint16_t *memory, size_t memory_count, uint64_t *answer, size_t answer_count);
 uint32_t r8_step(uint16_t *registers, size_t registers_count, uint32_t *state, size_t state_count,
                  uint16_t *memory, size_t memory_count, uint64_t *answer, size_t answer_count);
+#ifdef __cplusplus
+}
+#endif
 #endif

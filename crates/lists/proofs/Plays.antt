@@ -34,7 +34,7 @@ split-first call (noCall i) calls e = absurd (not-listed-call calls i (sym e))
 split-first call (noStretch i) calls e = absurd (not-listed-stretch calls i (sym e))
 
 -- how many numbers the answers of a play have
-numbers-length : (calls : List Call) (core : Core) (memory : List ℕ)
+pub numbers-length : (calls : List Call) (core : Core) (memory : List ℕ)
     → length (numbersOf (playCore calls core memory .answers)) ≡ 23 * length calls
 unfolding playCore numbersOf
 numbers-length [] core memory = refl

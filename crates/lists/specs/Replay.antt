@@ -18,7 +18,7 @@ use Rattle.lists.specs.declared.ReplayAnswer.{ReplayAnswer}
 use Rattle.lists.specs.declared.ReplayAnswer.the-variants.{Played, NoCall, NoStretch, NoRoom}
 
 -- A call is three numbers, the case and two more: 0 is reset; 1 a load of the bytes of the text from the first up to the second, which is
--- not included; 2 a run of the first, of 32 bits; 3 step; 4 view. What a case does not name is ignored.
+-- not included; 2 a run with the first as its budget, at most 4,294,967,295; 3 step; 4 view. What a case does not name is ignored.
 abbrev pub readStretch : ℕ → ℕ → ℕ → ReadCall
 readStretch first second size =
     cond (leb first second) (cond (leb second size) (readAs.Read (listedCall.Load first second)) readAs.NoStretch) readAs.NoStretch
@@ -41,7 +41,7 @@ callOf text (listedCall.Run b) = run b
 callOf text listedCall.Step = step
 callOf text listedCall.View = view
 
--- what a list is read as: its calls; or the index of the first that is none, or whose stretch is none of the text
+-- what a list is read as: its calls; or the index, from 0, of the first that is no call, or whose stretch is not in the text
 pub data Reading : Type 0 where
   listed : List Call → Reading
   noCall : ℕ → Reading
@@ -81,6 +81,10 @@ pub record Replayed : Type 0 where
 abbrev pub replayGave : ReplayAnswer → List ℕ → List ℕ → Replayed
 replayGave answer memory answers = record { answer = answer; memory = memory; answers = answers }
 
+-- numbers over the front of a list; what is past them stays
+abbrev pub over : List ℕ → List ℕ → List ℕ
+over numbers old = numbers ++ drop (length numbers) old
+
 -- the calls played on the instruction machine, which starts fresh on the memory: the memory is the machine's, and its answers are written
 -- from the first place on
 abbrev pub machinePlay : List Call → List ℕ → MachinePlay
@@ -89,7 +93,7 @@ machinePlay calls memory = playMachine calls (freshMachine memory) []
 abbrev pub machineReplay : List Call → List ℕ → List ℕ → Replayed
 machineReplay calls memory answers =
     replayGave (Played (length calls)) (machinePlay calls memory .machine .memory)
-    (written (numbersOf (machinePlay calls memory .answers)) answers)
+    (over (numbersOf (machinePlay calls memory .answers)) answers)
 
 -- a list that is read, and whose answers fit, is played; any other changes nothing
 abbrev pub replayed : Reading → List ℕ → List ℕ → Replayed
@@ -124,6 +128,7 @@ frontCall (a ∷ []) size = readAs.NoCall
 frontCall (a ∷ b ∷ []) size = readAs.NoCall
 frontCall (a ∷ b ∷ c ∷ rest) size = readCall a b c size
 
+-- a call that is read has its three numbers
 abbrev pub ReadWhole : ℕ → ReadCall → Type 0
 ReadWhole size (readAs.Read call) = 3 ≤ size
 ReadWhole size readAs.NoCall = Unit

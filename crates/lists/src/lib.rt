@@ -26,8 +26,8 @@ enum ReadCall {
     NoStretch,
 }
 
-// How many calls were played; or the index of the first that is none of the five, or that names no stretch of the text; or that the
-// answers do not fit.
+// How many calls were played; or the index, from 0, of the first that is none of the five, or that names no stretch of the text; or, where
+// all are, that the answers do not fit.
 pub enum ReplayAnswer {
     Played(usize),
     NoCall(usize),
@@ -139,7 +139,7 @@ fn put_at(answers: &mut [u64], to: usize, numbers: [u64; 23])
     layout::put(&mut answers[to..], numbers);
 }
 
-// Plays a list that can be played: the first call it cannot read, which such a list has not, would end it.
+// Plays a list that `check` has found playable: the two returns are never reached.
 fn play_all(calls: &[u64], text: &[u8], memory: &mut [u16], answers: &mut [u64])
     requires { ⌜ Playable (readCalls (now text) (now calls)) (length (now answers)) ⌝ }
     ensures { λ _. ⌜ corePlayed (readCalls (now (text .entry)) (now (calls .entry))) (now (memory .entry)) (now (answers .entry)) ≡ playedAs (now (memory .exit)) (now (answers .exit)) ⌝ }

@@ -34,7 +34,8 @@ abbrev pub HeldOn : Type 0
 HeldOn =
     (core : Core) (memory : List ℕ) (b : ℕ) → Held core → Held (run b core memory .core) × Held (step core memory .core)
 
--- the call after a call that was made is made too, on the very core and memory that the first handed back (proved as `call-after-call`)
+-- where a call that was made hands back a core as the code holds it, as run and step do, the next call is made too, on that very core and
+-- memory (proved as `call-after-call`)
 abbrev pub CallAfterCall : Type 0
 CallAfterCall =
     (first second : Core → List ℕ → Reply) (x : Lent) → codeOf (x .registers) (x .state) (x .answer) ≡ 0

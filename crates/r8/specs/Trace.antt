@@ -24,7 +24,7 @@ foundReturned noRoom answer = (2, answer)
 abbrev pub afterTrace : Trace → List ℕ → TraceReturned
 afterTrace x answer = lentTrace (foundReturned (x .finding) answer .0) (x .rows) (foundReturned (x .finding) answer .1)
 
--- 1 before 2; 2: the answer is too short
+-- first the length of the listing (1), then that of the answer (2), then what the trace finds
 unfoldable pub tracedLent : List ℕ → List ℕ → List ℕ → TraceReturned
 tracedLent listing rows answer =
     cond (ltb 65536 (length listing)) (lentTrace 1 rows answer)

@@ -63,7 +63,7 @@ pub record Trace : Type 0 where
   pub finding : Finding
   pub rows : List ℕ
 
--- a row for each instruction that a run finished; what is past them stays as it was, and so does all where they have no room
+-- a row for each instruction that a run finished; what is past them stays; without room for all of them, nothing is written
 abbrev pub traceOf : Answer → List ℕ → List ℕ → Trace
 traceOf answer memory rows =
     let count : ℕ = instructionsOf answer in

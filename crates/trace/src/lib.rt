@@ -14,7 +14,7 @@ use isa::Cycles;
 use listing::Fault;
 
 // What a trace finds: the totals of the run; or the listing's first fault and the offset of its line's start; or that the listing has more
-// than 65,536 bytes; or that the rows are too few.
+// than 65,536 bytes; or that the slice for the rows is too short.
 pub enum TraceAnswer {
     Traced {
         cycles: Cycles,
