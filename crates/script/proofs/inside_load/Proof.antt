@@ -1,0 +1,13 @@
+-- `script::inside_load` meets its contract. Assumes nothing.
+use borrow.Author.Needs.{needs}
+use Rattle.script.proofs.inside_load.Statement.{statement}
+use Rattle.script.proofs.inside_load.Tie as tie
+
+returns : tie.Need-returns
+returns c = rw (c .if1 .taken)
+
+returns-2 : tie.Need-returns-2
+returns-2 c = search needs
+
+pub inside-load-spec : {M : Type 1} → statement M
+inside-load-spec = tie.close (tie.spec returns returns-2)

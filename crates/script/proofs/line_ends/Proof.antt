@@ -1,0 +1,61 @@
+-- `script::line_ends` meets its contract: a space passed leaves what follows the spaces as it is. Assumes nothing.
+use mathlib.Core.Path.{_≡_, _∙_}
+use Prim.Native.Nat.{_≤_, _-_}
+use borrow.Author.Needs.{needs}
+use lib.ListN.{length, drop}
+use Rattle.lines.specs.Lines.{afterSpaces}
+use Rattle.lines.proofs.Places.{spaces-here}
+use Rattle.script.proofs.Words.{ends-over, ends-nothing}
+use Rattle.script.proofs.line_ends.Statement.{statement}
+use Rattle.script.proofs.line_ends.Tie as tie
+
+abbrev Inv-loop : tie.InvT-loop
+Inv-loop s i₀ i = (i ≤ length s) × (afterSpaces s ≡ afterSpaces (drop i s))
+
+abbrev μ-loop : tie.MeasureT-loop
+μ-loop s i₀ i = length s - i
+
+loop-holds : tie.Need-loop-holds Inv-loop μ-loop
+loop-holds c = search needs
+
+shared-slice-read-if1 : tie.Need-shared-slice-read-if1 Inv-loop μ-loop
+shared-slice-read-if1 c = search needs
+
+shared-slice-read-result : tie.Need-shared-slice-read-result Inv-loop μ-loop
+shared-slice-read-result c = search needs
+
+returns : tie.Need-returns Inv-loop μ-loop
+returns c =
+    let l = c .before .before .before .before in
+    ends-over (l .before .args .s .now) (l .loop .i) (l .loop .inv .1) (search needs) (c .before .if1 .taken)
+
+add-i : tie.Need-add-i Inv-loop μ-loop
+add-i c = search needs
+
+loop-less : tie.Need-loop-less Inv-loop μ-loop
+loop-less c = search needs
+
+loop-again : tie.Need-loop-again Inv-loop μ-loop
+loop-again c =
+    let l = c .before .before .before in
+    (search needs, l .loop .inv .1 ∙ spaces-here (l .before .args .s .now) (l .loop .i) (search needs) (c .if1 .left))
+
+returns-2 : tie.Need-returns-2 Inv-loop μ-loop
+returns-2 c =
+    let l = c .before in
+    ends-nothing (l .before .args .s .now) (l .loop .i) (l .loop .inv .1) (search needs)
+
+pub line-ends-spec : {M : Type 1} → statement M
+line-ends-spec =
+    tie.close
+    (tie.spec
+    Inv-loop
+    μ-loop
+    loop-holds
+    shared-slice-read-if1
+    shared-slice-read-result
+    returns
+    add-i
+    loop-less
+    loop-again
+    returns-2)

@@ -1,0 +1,64 @@
+-- What a line of a script says. A line is the list of its bytes.
+use mathlib.Core.Bool.{Bool, true, false, cond, _&&_}
+use mathlib.Core.List.{List, [], _∷_}
+use Prim.Native.Nat.{ℕ, _+_, _-_, _*_}
+use lib.Dec.{eqb, leb}
+use lib.ListN.{length, getD, drop}
+use Rattle.lines.specs.Lines.{ends}
+use Rattle.script.specs.declared.Command.{Command}
+use Rattle.script.specs.declared.Command.the-variants.{Blank, Reset, Load, End, Run, Step, View, Unknown}
+
+-- the words, in ASCII: `reset`, `load`, `end`, `step`, `view`, and `run` with its space
+abbrev pub resetWord : List ℕ
+resetWord = 114 ∷ 101 ∷ 115 ∷ 101 ∷ 116 ∷ []
+
+abbrev pub loadWord : List ℕ
+loadWord = 108 ∷ 111 ∷ 97 ∷ 100 ∷ []
+
+abbrev pub endWord : List ℕ
+endWord = 101 ∷ 110 ∷ 100 ∷ []
+
+abbrev pub stepWord : List ℕ
+stepWord = 115 ∷ 116 ∷ 101 ∷ 112 ∷ []
+
+abbrev pub viewWord : List ℕ
+viewWord = 118 ∷ 105 ∷ 101 ∷ 119 ∷ []
+
+abbrev pub runWord : List ℕ
+runWord = 114 ∷ 117 ∷ 110 ∷ 32 ∷ []
+
+-- whether a line begins with a word
+unfoldable pub begins : List ℕ → List ℕ → Bool
+begins [] line = true
+begins (w ∷ word) [] = false
+begins (w ∷ word) (b ∷ line) = cond (eqb b w) (begins word line) false
+
+-- the word, then spaces or none, then nothing or `;` and a comment
+unfoldable pub says : List ℕ → List ℕ → Bool
+says word line = begins word line && ends (drop (length word) line)
+
+-- the digits 0 to 9
+unfoldable pub isDigit : ℕ → Bool
+isDigit b = leb 48 b && leb b 57
+
+-- a budget of 32 bits, its digits followed by the end of a line as above
+unfoldable pub runOf : ℕ → Bool → Command
+runOf n ended = cond (leb n 4294967295 && ended) (Run n) Unknown
+
+-- the digits on from a value read so far
+unfoldable pub budgetFrom : ℕ → List ℕ → Command
+budgetFrom n [] = runOf n true
+budgetFrom n (b ∷ t) = cond (isDigit b) (budgetFrom (n * 10 + (b - 48)) t) (runOf n (ends (b ∷ t)))
+
+-- a digit or more; 0, which is none, stands for the byte past the end
+unfoldable pub budgetOf : List ℕ → Command
+budgetOf t = cond (isDigit (getD t 0 0)) (budgetFrom 0 t) Unknown
+
+unfoldable pub commandOf : List ℕ → Command
+commandOf line =
+    cond (ends line) Blank
+    (cond (says resetWord line) Reset
+    (cond (says loadWord line) Load
+    (cond (says endWord line) End
+    (cond (says stepWord line) Step
+    (cond (says viewWord line) View (cond (begins runWord line) (budgetOf (drop 4 line)) Unknown))))))

@@ -1,0 +1,4 @@
+-- What the contracts of `script` cite, and the theorems about it.
+pub mod Commands
+pub mod Script
+pub mod Theorems

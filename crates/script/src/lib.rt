@@ -1,0 +1,406 @@
+// Scripts: calls as lines of text, read into the numbers that lists::replay takes.
+ghost use mathlib.Core.Path.{_≡_};
+ghost use Prim.Native.Nat.{ℕ, _+_, _*_, _≤_};
+ghost use lib.ListN.{length};
+ghost use Rattle.lines.specs.Lines.{ends};
+ghost use Rattle.script.specs.Commands.{begins, says, isDigit, runOf, budgetOf, commandOf};
+ghost use Rattle.script.specs.Script.{outside, isLoad, isEnd, inside, meaningOf, afterOutside, afterInside, placeAfter, scriptOf, gave, scriptRead, verdictOf, atEndAnswer, callsIn, isUnreadable, put, Fits, written};
+
+const SPACE: u8 = 32;
+
+const SEMICOLON: u8 = 59;
+
+// What one line says.
+enum Command {
+    // Spaces or none, then nothing or a comment: skipped.
+    Blank,
+    Reset,
+    Load,
+    End,
+    Run(u32),
+    Step,
+    View,
+    Unknown,
+}
+
+// Outside a load; or inside one, with the number of its line and the offset at which its listing starts.
+enum Place {
+    Outside,
+    Inside { number: usize, from: usize },
+}
+
+// What a line comes to at its place: a call is the three numbers of lists::replay.
+enum Meaning {
+    Nothing,
+    Call { kind: u64, first: u64, second: u64 },
+    Unreadable,
+}
+
+// How many calls a script has; or the number of the first line that cannot be read; or that the calls do not fit.
+pub enum ScriptAnswer {
+    Read(usize),
+    Unreadable(usize),
+    NoRoom,
+}
+
+// Spaces or none, then nothing or a comment.
+fn line_ends(s: &[u8]) -> bool
+    ensures { λ r. ⌜ r ≡ ends (now (s .entry)) ⌝ }
+{
+    let mut i = 0;
+    while i < s.len() {
+        if s[i] != SPACE {
+            return s[i] == SEMICOLON;
+        }
+        i += 1;
+    }
+    true
+}
+
+fn begins_with(word: &[u8], line: &[u8]) -> bool
+    ensures { λ r. ⌜ r ≡ begins (now (word .entry)) (now (line .entry)) ⌝ }
+{
+    let mut i = 0;
+    while i < word.len() {
+        if line.len() <= i {
+            return false;
+        }
+        if line[i] != word[i] {
+            return false;
+        }
+        i += 1;
+    }
+    true
+}
+
+// The word, then the end of a line.
+fn is_word(word: &[u8], line: &[u8]) -> bool
+    ensures { λ r. ⌜ r ≡ says (now (word .entry)) (now (line .entry)) ⌝ }
+{
+    if begins_with(word, line) {
+        let n = word.len();
+        return line_ends(&line[n..]);
+    }
+    false
+}
+
+fn is_digit(b: u8) -> bool
+    ensures { λ r. ⌜ r ≡ isDigit b ⌝ }
+{
+    if b < 48 {
+        return false;
+    }
+    b <= 57
+}
+
+// A value that a run can have, its digits followed by the end of the line or not.
+fn run_of(value: u64, ended: bool) -> Command
+    ensures { λ r. ⌜ r ≡ runOf value ended ⌝ }
+{
+    if 4294967295 < value {
+        return Command::Unknown;
+    }
+    if ended {
+        return Command::Run(value as u32);
+    }
+    Command::Unknown
+}
+
+fn wide(b: u8) -> u64
+    ensures { λ r. ⌜ r ≡ b ⌝ }
+{
+    b as u64
+}
+
+// What follows `run` and its space: digits, then the end of the line. A value that has grown too large stays so.
+fn read_budget(s: &[u8]) -> Command
+    ensures { λ r. ⌜ r ≡ budgetOf (now (s .entry)) ⌝ }
+{
+    if s.len() == 0 {
+        return Command::Unknown;
+    }
+    if !is_digit(s[0]) {
+        return Command::Unknown;
+    }
+    let mut value: u64 = 0;
+    let mut i = 0;
+    while i < s.len() {
+        if !is_digit(s[i]) {
+            return run_of(value, line_ends(&s[i..]));
+        }
+        value = value * 10 + wide(s[i] - 48);
+        if 4294967295 < value {
+            return Command::Unknown;
+        }
+        i += 1;
+    }
+    run_of(value, true)
+}
+
+fn read_command(line: &[u8]) -> Command
+    ensures { λ r. ⌜ r ≡ commandOf (now (line .entry)) ⌝ }
+{
+    if line_ends(line) {
+        return Command::Blank;
+    }
+    if is_word(b"reset", line) {
+        return Command::Reset;
+    }
+    if is_word(b"load", line) {
+        return Command::Load;
+    }
+    if is_word(b"end", line) {
+        return Command::End;
+    }
+    if is_word(b"step", line) {
+        return Command::Step;
+    }
+    if is_word(b"view", line) {
+        return Command::View;
+    }
+    if begins_with(b"run ", line) {
+        return read_budget(&line[4..]);
+    }
+    Command::Unknown
+}
+
+fn outside_load(command: Command) -> Meaning
+    ensures { λ r. ⌜ r ≡ outside command ⌝ }
+{
+    match command {
+        Command::Blank => Meaning::Nothing,
+        Command::Reset => Meaning::Call {
+            kind: 0,
+            first: 0,
+            second: 0,
+        },
+        Command::Load => Meaning::Nothing,
+        Command::End => Meaning::Unreadable,
+        Command::Run(b) => Meaning::Call {
+            kind: 2,
+            first: b as u64,
+            second: 0,
+        },
+        Command::Step => Meaning::Call {
+            kind: 3,
+            first: 0,
+            second: 0,
+        },
+        Command::View => Meaning::Call {
+            kind: 4,
+            first: 0,
+            second: 0,
+        },
+        Command::Unknown => Meaning::Unreadable,
+    }
+}
+
+fn inside_load(closed: bool, from: usize, start: usize) -> Meaning
+    ensures { λ r. ⌜ r ≡ inside closed from start ⌝ }
+{
+    if closed {
+        return Meaning::Call {
+            kind: 1,
+            first: from as u64,
+            second: start as u64,
+        };
+    }
+    Meaning::Nothing
+}
+
+fn opens(command: Command) -> bool
+    ensures { λ r. ⌜ r ≡ isLoad command ⌝ }
+{
+    match command {
+        Command::Blank => false,
+        Command::Reset => false,
+        Command::Load => true,
+        Command::End => false,
+        Command::Run(_) => false,
+        Command::Step => false,
+        Command::View => false,
+        Command::Unknown => false,
+    }
+}
+
+fn closes(command: Command) -> bool
+    ensures { λ r. ⌜ r ≡ isEnd command ⌝ }
+{
+    match command {
+        Command::Blank => false,
+        Command::Reset => false,
+        Command::Load => false,
+        Command::End => true,
+        Command::Run(_) => false,
+        Command::Step => false,
+        Command::View => false,
+        Command::Unknown => false,
+    }
+}
+
+fn meaning_of(place: Place, command: Command, start: usize) -> Meaning
+    ensures { λ r. ⌜ r ≡ meaningOf place command start ⌝ }
+{
+    match place {
+        Place::Outside => outside_load(command),
+        Place::Inside { number: _, from } => inside_load(closes(command), from, start),
+    }
+}
+
+// Where the next line is, after one outside a load.
+fn place_opened(opened: bool, number: usize, next: usize) -> Place
+    ensures { λ r. ⌜ r ≡ afterOutside opened number next ⌝ }
+{
+    if opened {
+        return Place::Inside {
+            number: number,
+            from: next,
+        };
+    }
+    Place::Outside
+}
+
+// And after one inside.
+fn place_closed(closed: bool, number: usize, from: usize) -> Place
+    ensures { λ r. ⌜ r ≡ afterInside closed number from ⌝ }
+{
+    if closed {
+        return Place::Outside;
+    }
+    Place::Inside {
+        number: number,
+        from: from,
+    }
+}
+
+fn place_after(place: Place, command: Command, number: usize, next: usize) -> Place
+    ensures { λ r. ⌜ r ≡ placeAfter place command number next ⌝ }
+{
+    match place {
+        Place::Outside => place_opened(opens(command), number, next),
+        Place::Inside { number: load, from } => place_closed(closes(command), load, from),
+    }
+}
+
+fn calls_in(meaning: Meaning) -> usize
+    ensures { λ r. ⌜ r ≡ callsIn meaning ⌝ }
+{
+    match meaning {
+        Meaning::Nothing => 0,
+        Meaning::Call {
+            kind: _,
+            first: _,
+            second: _,
+        } => 1,
+        Meaning::Unreadable => 0,
+    }
+}
+
+fn cannot_be_read(meaning: Meaning) -> bool
+    ensures { λ r. ⌜ r ≡ isUnreadable meaning ⌝ }
+{
+    match meaning {
+        Meaning::Nothing => false,
+        Meaning::Call {
+            kind: _,
+            first: _,
+            second: _,
+        } => false,
+        Meaning::Unreadable => true,
+    }
+}
+
+fn at_end(place: Place, count: usize) -> ScriptAnswer
+    ensures { λ r. ⌜ r ≡ atEndAnswer place count ⌝ }
+{
+    match place {
+        Place::Outside => ScriptAnswer::Read(count),
+        Place::Inside { number, from: _ } => ScriptAnswer::Unreadable(number),
+    }
+}
+
+// What a script is, with nothing written yet. The line reader of listings says how long a line is.
+fn check(text: &[u8]) -> ScriptAnswer
+    ensures { λ r. ⌜ r ≡ verdictOf (scriptOf (now (text .entry))) ⌝ }
+{
+    let mut at = 0;
+    let mut number = 1;
+    let mut count = 0;
+    let mut place = Place::Outside;
+    while at < text.len() {
+        let read = lines::read_line(&text[at..]);
+        let end = at + read.length;
+        let command = read_command(&text[at..end]);
+        let meaning = meaning_of(place, command, at);
+        if cannot_be_read(meaning) {
+            return ScriptAnswer::Unreadable(number);
+        }
+        at = end + 1;
+        place = place_after(place, command, number, at);
+        count += calls_in(meaning);
+        number += 1;
+    }
+    at_end(place, count)
+}
+
+// Writes a line's call from a place on, and answers the place after it.
+fn put_call(calls: &mut [u64], to: usize, meaning: Meaning) -> usize
+    requires { ⌜ to + 3 * callsIn meaning ≤ length (now calls) ⌝ }
+    ensures place { λ r. ⌜ r ≡ to + 3 * callsIn meaning ⌝ }
+    ensures calls { λ _. ⌜ now (calls .exit) ≡ put meaning to (now (calls .entry)) ⌝ }
+{
+    match meaning {
+        Meaning::Nothing => to,
+        Meaning::Call {
+            kind,
+            first,
+            second,
+        } => {
+            calls[to] = kind;
+            calls[to + 1] = first;
+            calls[to + 2] = second;
+            to + 3
+        }
+        Meaning::Unreadable => to,
+    }
+}
+
+// Writes the calls of a script that can be read and whose calls fit.
+fn write_calls(text: &[u8], calls: &mut [u64])
+    requires { ⌜ Fits (scriptOf (now text)) (length (now calls)) ⌝ }
+    ensures { λ _. ⌜ now (calls .exit) ≡ written (scriptOf (now (text .entry))) (now (calls .entry)) ⌝ }
+{
+    let mut at = 0;
+    let mut number = 1;
+    let mut to = 0;
+    let mut place = Place::Outside;
+    while at < text.len() {
+        let read = lines::read_line(&text[at..]);
+        let end = at + read.length;
+        let command = read_command(&text[at..end]);
+        let meaning = meaning_of(place, command, at);
+        to = put_call(calls, to, meaning);
+        at = end + 1;
+        place = place_after(place, command, number, at);
+        number += 1;
+    }
+}
+
+// Reads a script: writes its calls from calls[0] on, three numbers each. Where it cannot be read, or its calls do not fit, nothing is
+// written.
+pub fn read(text: &[u8], calls: &mut [u64]) -> ScriptAnswer
+    ensures { λ r. ⌜ gave r (now (calls .exit)) ≡ scriptRead (scriptOf (now (text .entry))) (now (calls .entry)) ⌝ }
+{
+    let answer = check(text);
+    match answer {
+        ScriptAnswer::Read(count) => {
+            if calls.len() / 3 < count {
+                return ScriptAnswer::NoRoom;
+            }
+            write_calls(text, calls);
+        }
+        ScriptAnswer::Unreadable(_) => {}
+        ScriptAnswer::NoRoom => {}
+    }
+    answer
+}
