@@ -1,4 +1,6 @@
--- Laws about the layout of answers.
+-- Laws about the layout of answers, and its theorems.
 pub mod Sizes
 pub mod Replies
 pub mod Written
+pub mod Back
+pub mod Theorems

@@ -6,10 +6,10 @@ use Prim.Native.Nat.{ℕ, _≤_}
 use native.Mathlib.Omega.{arith}
 use lib.ListN.{length, getD}
 use borrow.Author.Tests.{eqb-true, leb-true}
-use Rattle.words.specs.Arithmetic.{bit}
 use Rattle.isa.specs.declared.Flags.{Flags}
 use Rattle.effects.specs.declared.Stop.{Stop}
 use Rattle.effects.specs.declared.Stop.the-variants.{Going, Halted, Undefined}
+use Rattle.core.proofs.Replies.{bit-small}
 use Rattle.layout.specs.Layout.{flagsNumber, stopNumber}
 use Rattle.r8.specs.Numbers.{registersSize, stateSize, isCore}
 
@@ -38,10 +38,6 @@ fits registers state e =
       stop = leb-true _ _ (d .0);
       due = leb-true _ _ (d .1);
     }
-
-pub bit-small : (b : Bool) → bit b ≤ 1
-bit-small true = omega arith
-bit-small false = omega arith
 
 pub flags-small : (f : Flags) → flagsNumber f ≤ 15
 flags-small f = omega (arith, bit-small (f .n), bit-small (f .z), bit-small (f .c), bit-small (f .v))

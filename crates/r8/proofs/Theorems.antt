@@ -4,42 +4,27 @@ use mathlib.Core.Bool.{Bool, true, false}
 use mathlib.Core.List.{List, [], _∷_, _++_}
 use Prim.Native.Nat.{ℕ, zero, suc, _+_, _*_, _/_, _%_, _≤_, _<_}
 use native.Mathlib.Omega.{arith}
-use lib.Dec.{eqb, lit<}
+use lib.Dec.{lit<}
 use lib.ListN.{length, getD, take, drop, length-append, take-append-drop, drop-of-length-le}
 use lib.Seq.{take-at, drop-cons, getD-append-add, length-take-le}
 use borrow.Author.Tests.{eqb-true, eqb-false, eq-eqb, le-leb, le-ltb}
 use Rattle.words.specs.Arithmetic.{bit}
-use Rattle.isa.specs.declared.Flags.{Flags}
 use Rattle.effects.specs.declared.Stop.{Stop}
 use Rattle.effects.specs.declared.Stop.the-variants.{Going, Halted, Undefined}
-use Rattle.core.specs.Calls.{Answer, done, stored, ran, viewed, refused, refusedAt, run}
+use Rattle.core.specs.Calls.{run}
 use Rattle.core.proofs.Again.{run-again}
 use Rattle.layout.specs.Layout.{flagsNumber, isOdd, flagsOf, stopNumber, answerSize, answerNumbers}
+use Rattle.layout.proofs.Back.{flags-back}
+use Rattle.layout.proofs.Theorems.{answer-size}
 use Rattle.r8.specs.Numbers.{registersOf, stateOf, stopOf, coreOf, isCore}
 use Rattle.r8.specs.Call.{Lent, codeOf, after, called}
 use Rattle.r8.specs.Theorems.{CoreBack, NumbersBack, HeldOn, CallAfterCall, RunInPieces}
 use Rattle.r8.proofs.Lengths.{length-onto}
-use Rattle.r8.proofs.Numbers.{fits, bit-small, flags-small, stop-small}
+use Rattle.r8.proofs.Numbers.{fits, flags-small, stop-small}
 use Rattle.r8.proofs.Calls.{accepted, taken, answered}
 use Rattle.r8.proofs.Held.{run-held, step-held}
 
 -- flags and stop states
-odd-bit : (b : Bool) (n : ℕ) → n % 2 ≡ bit b → isOdd n ≡ b
-odd-bit true n e = eq-eqb (n % 2) 1 e
-odd-bit false n e = ap (λ (k : ℕ). eqb k 1) e
-
-flags-back : (f : Flags) → flagsOf (flagsNumber f) ≡ f
-flags-back f =
-    let hn = bit-small (f .n) in
-    let hz = bit-small (f .z) in
-    let hc = bit-small (f .c) in
-    let hv = bit-small (f .v) in
-    let n = odd-bit (f .n) (flagsNumber f / 8) (omega arith) in
-    let z = odd-bit (f .z) (flagsNumber f / 4) (omega arith) in
-    let carry = odd-bit (f .c) (flagsNumber f / 2) (omega arith) in
-    let v = odd-bit (f .v) (flagsNumber f) (omega arith) in
-    λ j. record { n = n j; z = z j; c = carry j; v = v j }
-
 stop-back : (s : Stop) → stopOf (stopNumber s) ≡ s
 stop-back Going = refl
 stop-back Halted = refl
@@ -123,15 +108,6 @@ numbers-back registers state e =
 
 pub held-on : HeldOn
 held-on core memory b h = (run-held core memory b h, step-held core memory h)
-
-answer-size : (a : Answer) → length (answerNumbers a) ≡ answerSize
-unfolding answerNumbers
-answer-size done = refl
-answer-size (stored count) = refl
-answer-size (ran cycles instructions end) = refl
-answer-size (viewed v due clock) = refl
-answer-size (refused number) = refl
-answer-size (refusedAt number offset) = refl
 
 pub call-after-call : CallAfterCall
 unfolding codeOf

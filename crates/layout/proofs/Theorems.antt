@@ -1,0 +1,89 @@
+-- The theorems of specs/Theorems.antt: an answer is read back from its numbers. Assumes nothing.
+use mathlib.Core.Path.{_≡_, refl, sym, ap, _∙_}
+use mathlib.Core.Bool.{cond}
+use mathlib.Core.List.{List, [], _∷_}
+use Prim.Native.Nat.{ℕ, zero, suc, _+_}
+use native.Mathlib.Omega.{arith}
+use lib.Dec.{eqb}
+use lib.ListN.{length, getD, take, drop, drop-of-length-le}
+use lib.Seq.{drop-cons}
+use Rattle.effects.specs.declared.Stop.{Stop}
+use Rattle.effects.specs.declared.Stop.the-variants.{Going, Halted, Undefined}
+use Rattle.core.specs.Calls.{Answer, done, stored, ran, viewed, refused, refusedAt}
+use Rattle.core.specs.declared.End.{End}
+use Rattle.core.specs.declared.End.the-variants.{H, U, B, M}
+use Rattle.text.specs.Text.{letterText}
+use Rattle.layout.specs.Layout.{flagsOf, stopNumber, bankNumbers, answerNumbers}
+use Rattle.layout.specs.Theorems.{AnswerSize, Whole, AnswersApart}
+use Rattle.layout.proofs.Sizes.{numbers-size}
+use Rattle.layout.proofs.Back.{flags-back}
+
+pub answer-size : AnswerSize
+answer-size = numbers-size
+
+-- the end of a letter, and the stop state of a number
+abbrev endOf : ℕ → End
+endOf n = cond (eqb n 72) H (cond (eqb n 85) U (cond (eqb n 66) B M))
+
+end-back : (end : End) → endOf (letterText end) ≡ end
+end-back H = refl
+end-back U = refl
+end-back B = refl
+end-back M = refl
+
+abbrev stopOf : ℕ → Stop
+stopOf n = cond (eqb n 0) Going (cond (eqb n 1) Halted Undefined)
+
+stop-back : (s : Stop) → stopOf (stopNumber s) ≡ s
+stop-back Going = refl
+stop-back Halted = refl
+stop-back Undefined = refl
+
+-- a list of sixteen, by its elements
+abbrev from : List ℕ → ℕ → ℕ → List ℕ
+from l i zero = []
+from l i (suc n) = getD l i 0 ∷ from l (suc i) n
+
+from-drop : (l : List ℕ) (i n : ℕ) → length l ≡ i + n → from l i n ≡ drop i l
+from-drop l i zero e = sym (drop-of-length-le l {i = i} (omega arith))
+from-drop l i (suc n) e =
+    ap (λ (r : List ℕ). getD l i 0 ∷ r) (from-drop l (suc i) n (omega arith)) ∙ sym (drop-cons l i 0 (omega arith))
+
+bank-back : (regs : List ℕ) → length regs ≡ 16 → bankNumbers regs ≡ regs
+bank-back regs e = from-drop regs 0 16 e
+
+-- the answer of its numbers, by the first of them
+abbrev answerOf : List ℕ → Answer
+answerOf l =
+    let case = getD l 0 0 in
+    cond (eqb case 0) done
+    (cond (eqb case 1) (stored (getD l 1 0))
+    (cond (eqb case 2) (ran (getD l 1 0) (getD l 2 0) (endOf (getD l 3 0)))
+    (cond (eqb case 3)
+    (viewed
+    (record {
+      regs = take 16 (drop 1 l);
+      pc = getD l 17 0;
+      sp = getD l 18 0;
+      flags = flagsOf (getD l 19 0);
+      stop = stopOf (getD l 20 0);
+    })
+    (getD l 21 0)
+    (getD l 22 0))
+    (cond (eqb case 4) (refused (getD l 1 0)) (refusedAt (getD l 1 0) (getD l 2 0))))))
+
+answer-back : (a : Answer) → Whole a → answerOf (answerNumbers a) ≡ a
+unfolding answerNumbers
+answer-back done h = refl
+answer-back (stored count) h = refl
+answer-back (ran cycles instructions end) h = ap (ran cycles instructions) (end-back end)
+answer-back (viewed v due clock) h =
+    let regs = bank-back (v .regs) h in
+    let flags = flags-back (v .flags) in
+    let stop = stop-back (v .stop) in
+    λ j. viewed (record { regs = regs j; pc = v .pc; sp = v .sp; flags = flags j; stop = stop j }) due clock
+answer-back (refused number) h = refl
+answer-back (refusedAt number offset) h = refl
+
+pub answers-apart : AnswersApart
+answers-apart a b ha hb e = sym (answer-back a ha) ∙ ap answerOf e ∙ answer-back b hb
