@@ -1,6 +1,7 @@
--- Laws on the lines and calls of a script.
+-- Laws on the lines and calls of a script, and its theorems.
 pub mod Words
 pub mod Budgets
 pub mod Turns
 pub mod Writes
 pub mod Theorems
+pub mod Played

@@ -17,6 +17,7 @@ use Rattle.script.specs.declared.Command.the-variants.{Blank, Reset, Loa
 use Rattle.script.specs.declared.Place.{Place}
 use Rattle.script.specs.declared.Place.the-variants.{Outside, Inside}
 use Rattle.script.proofs.Words.{begins-length}
+use Rattle.script.proofs.Writes.{not-calls}
 
 -- how many bytes a command has at least, as far as is asked here
 abbrev needed : Command → ℕ
@@ -85,9 +86,6 @@ command-fair line =
     (when (says stepWord line) (λ e. record { long = says-length stepWord line e; small = tt })
     (when (says viewWord line) (λ e. record { long = says-length viewWord line e; small = tt })
     (when (begins runWord line) (λ e. budget-fair (drop 4 line) (begins-length runWord line e)) (none (length line))))))))
-
-not-calls : {number : ℕ} {cs : List Call} → unreadable number ≡ calls cs → ⊥
-not-calls e = let z : _≡_ {A = ℕ} 0 1 = cc in omega arith
 
 -- a load that is open starts before the place reached, and its own line has paid for its call
 abbrev Opened : Place → ℕ → Type 0

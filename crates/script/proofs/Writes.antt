@@ -17,7 +17,7 @@ use Rattle.script.specs.declared.Meaning.the-variants as meaning
 use Rattle.script.specs.declared.ScriptAnswer.{ScriptAnswer}
 use Rattle.script.specs.declared.ScriptAnswer.the-variants as answer
 
-not-calls : {number : ℕ} {cs : List Call} → unreadable number ≡ calls cs → ⊥
+pub not-calls : {number : ℕ} {cs : List Call} → unreadable number ≡ calls cs → ⊥
 not-calls e = let z : _≡_ {A = ℕ} 0 1 = cc in omega arith
 
 numbers-length : (cs : List Call) → length (numbersOf cs) ≡ 3 * length cs

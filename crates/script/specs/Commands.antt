@@ -1,4 +1,6 @@
--- What a line of a script says. A line is the list of its bytes.
+-- What a line of a script says: `reset`, `load`, `end`, `step`, `view`, or `run`, one space and decimal digits (at most 4,294,967,295), from
+-- its first byte on, in lower case; then spaces or none, then nothing or `;` and a comment. A line without a word is skipped. CR and tab
+-- are no spaces. A line is the list of its bytes, without its LF.
 use mathlib.Core.Bool.{Bool, true, false, cond, _&&_}
 use mathlib.Core.List.{List, [], _∷_}
 use Prim.Native.Nat.{ℕ, _+_, _-_, _*_}

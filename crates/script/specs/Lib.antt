@@ -2,3 +2,4 @@
 pub mod Commands
 pub mod Script
 pub mod Theorems
+pub mod Played

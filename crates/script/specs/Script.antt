@@ -49,7 +49,8 @@ isEnd Step = false
 isEnd View = false
 isEnd Unknown = false
 
--- inside a load every line is its listing's, up to `end`: the load's stretch goes up to the start of that line
+-- inside a load every line is its listing's, one of only a comment too, which is ill-formed there; up to `end`: the load's stretch goes up
+-- to the start of that line
 abbrev pub inside : Bool → ℕ → ℕ → Meaning
 inside closed from start = cond closed (meaning.Call 1 from start) meaning.Nothing
 

@@ -36,7 +36,8 @@ enum Meaning {
     Unreadable,
 }
 
-// How many calls a script has; or the number of the first line that cannot be read; or that the calls do not fit.
+// How many calls a script has; or the number, from 1, of the first line that cannot be read (of a load that is never ended, the line
+// `load`); or that the calls do not fit.
 pub enum ScriptAnswer {
     Read(usize),
     Unreadable(usize),
