@@ -125,7 +125,7 @@ fn put(reply: RunReply, registers: &mut [u16], state: &mut [u32], answer: &mut [
     let numbers = layout::run_numbers(said);
     put_registers(core, registers);
     put_state(core, state);
-    super::copy::numbers(&numbers, answer);
+    layout::put(answer, numbers);
 }
 
 // b datapath cycles, fewer if the core stops.

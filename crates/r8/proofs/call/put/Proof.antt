@@ -1,9 +1,14 @@
 -- `r8::call::put` meets its contract: each slice by its callee. Assumes nothing.
-use mathlib.Core.List.{List}
-use mathlib.Core.Path.{ap, _∙_}
+use mathlib.Core.Path.{_≡_, ap, _∙_}
+use mathlib.Core.List.{List, _++_}
 use Prim.Native.Nat.{ℕ}
-use borrow.Author.Needs.{needs}
+use native.Mathlib.Omega.{arith}
+use lib.ListN.{length, drop}
+use Rattle.core.specs.Answers.{runAnswerOf}
+use Rattle.layout.proofs.Theorems.{answer-size}
+use Rattle.layout.proofs.Written.{fitting}
 use Rattle.r8.specs.Slices.{onto}
+use borrow.Author.Needs.{needs}
 use Rattle.r8.proofs.call.put.Statement.{statement}
 use Rattle.r8.proofs.call.put.Tie as tie
 
@@ -16,11 +21,8 @@ put-registers-requires c κs = search needs
 put-state-requires : tie.Need-put-state-requires
 put-state-requires c κs = search needs
 
-slice-aggregate-numbers : tie.Need-slice-aggregate-numbers
-slice-aggregate-numbers c = search needs
-
-numbers-requires : tie.Need-numbers-requires
-numbers-requires c κs = search needs
+put-requires : tie.Need-put-requires
+put-requires c κs = search needs
 
 same-length : tie.Need-same-length
 same-length c = search needs
@@ -32,11 +34,17 @@ same-length-3 : tie.Need-same-length-3
 same-length-3 c = search needs
 
 returns : tie.Need-returns
+unfolding onto
 returns c =
-    let answer = c .before .before .before .before .before .before .before .before .before .before .before .before .before .before .before .before .before .before .args .answer .now in (
-      c .before .before .before .before .before .before .before .before .before .before .before .put-registers .ensures,
-      c .before .before .before .before .before .before .before .put-state .ensures,
-      c .before .before .numbers2 .ensures ∙ ap (λ (x : List ℕ). onto x answer) (c .before .before .before .before .before .before .before .before .before .before .before .before .before .run-numbers .ensures),
+    let answer = c .before .before .before .before .before .before .before .before .before .before .before .before .before .before .before .before .before .args .answer .now in
+    let said = c .before .before .before .before .before .before .before .before .before .before .before .before .run-numbers .ensures in
+    let numbers = c .before .before .before .before .before .before .before .before .before .before .before .before .run-numbers .result in
+    let size : length numbers ≡ 23 = ap length said ∙ answer-size (runAnswerOf (c .before .before .before .before .before .before .before .before .before .before .before .before .before .before .before .before .before .args .reply .answer)) in (
+      c .before .before .before .before .before .before .before .before .before .before .put-registers .ensures,
+      c .before .before .before .before .before .before .put-state .ensures,
+      c .before .before .put .ensures
+          ∙ fitting numbers answer (omega (arith, size, c .before .before .before .before .before .before .before .before .before .before .before .before .before .before .before .before .before .pre .2))
+          ∙ ap (λ (x : List ℕ). x ++ drop (length x) answer) said,
     )
 
 pub put-spec : {M : Type 1} → statement M
@@ -46,8 +54,7 @@ put-spec =
     run-numbers-requires
     put-registers-requires
     put-state-requires
-    slice-aggregate-numbers
-    numbers-requires
+    put-requires
     same-length
     same-length-2
     same-length-3
