@@ -195,7 +195,7 @@ fn write_line(before: &[u8], n: usize, after: &[u8]) {
     write_page(&page, at);
 }
 
-// Plays calls and writes their answers. A script's calls are all calls, with stretches of the text (`EachIsCall` in script), and the
+// Plays calls and writes their answers. A script's calls are all calls, with stretches of the text (`ScriptPlayed` in script), and the
 // answers fit: the last three cases do not arise.
 fn play(calls: &[u64], input: &[u8], answers: &mut [u64]) {
     let mut memory = [0u16; 16384];
