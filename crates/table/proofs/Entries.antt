@@ -20,6 +20,7 @@ use Rattle.isa.specs.declared.Condition.{Condition}
 use Rattle.isa.specs.declared.Condition.the-variants.{Always, Negative, Zero, Carry, Overflow}
 use Rattle.isa.specs.declared.Target.{Target}
 use Rattle.isa.specs.declared.Target.the-variants.{Relative, Absolute, Displaced}
+use Rattle.table.proofs.Table.{kind-past}
 use Rattle.table.proofs.Lines.{place-le, Line, line}
 
 -- the list counts up from i
@@ -79,6 +80,22 @@ kind-at (Call target) = elim target [ Relative ↦ refl | Absolute ↦ refl | Di
 pub kind-by-place : (w : ℕ) (k : Kind) → placeOf w ≡ entry k → kindOf w ≡ k
 unfolding kindOf
 kind-by-place w k e = ap (λ (n : ℕ). getD table n Undefined) e ∙ kind-at k
+
+-- the kind that code finds at a word's place
+pub found-at : (w n : ℕ) (k : Kind) → n ≡ placeOf w → n ≡ entry k → k ≡ kindOf w
+found-at w n k p e = sym (kind-by-place w k (sym p ∙ e))
+
+-- a number that is none of the first k is k or more
+abbrev None : ℕ → ℕ → Type 0
+None n zero = Unit
+None n (suc k) = None n k × (n ≡ k → ⊥)
+
+none-below : (n k : ℕ) → None n k → k ≤ n
+none-below n zero h = omega arith
+none-below n (suc k) h = let below = none-below n k (h .0) in omega (arith, below, h .1)
+
+pub found-past : (w n : ℕ) → n ≡ placeOf w → None n 40 → Undefined ≡ kindOf w
+found-past w n p h = sym (kind-past w (subst (λ (m : ℕ). 40 ≤ m) p (none-below n 40 h)))
 
 -- which line of the table an entry is on
 pub binary-on-O : (op : BinaryOp) → binaryEntry op < 11

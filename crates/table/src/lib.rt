@@ -8,50 +8,6 @@ use isa::Kind;
 use isa::Target;
 use isa::UnaryOp;
 
-// The instruction table, in the order of document 01.
-const TABLE: [Kind; 40] = [
-    Kind::Binary(BinaryOp::Add),
-    Kind::Binary(BinaryOp::Sub),
-    Kind::Binary(BinaryOp::And),
-    Kind::Binary(BinaryOp::Or),
-    Kind::Binary(BinaryOp::Xor),
-    Kind::Constant(ConstantOp::Addi),
-    Kind::Constant(ConstantOp::Subi),
-    Kind::Constant(ConstantOp::Ldl),
-    Kind::Constant(ConstantOp::Ldh),
-    Kind::Ld,
-    Kind::St,
-    Kind::Unary(UnaryOp::Sl0),
-    Kind::Unary(UnaryOp::Sl1),
-    Kind::Unary(UnaryOp::Sr0),
-    Kind::Unary(UnaryOp::Sr1),
-    Kind::Unary(UnaryOp::Not),
-    Kind::Nop,
-    Kind::Halt,
-    Kind::Ldsp,
-    Kind::Rts,
-    Kind::Pop,
-    Kind::Push,
-    Kind::Jump(Condition::Always, Target::Relative),
-    Kind::Jump(Condition::Negative, Target::Relative),
-    Kind::Jump(Condition::Zero, Target::Relative),
-    Kind::Jump(Condition::Carry, Target::Relative),
-    Kind::Jump(Condition::Overflow, Target::Relative),
-    Kind::Jump(Condition::Always, Target::Absolute),
-    Kind::Jump(Condition::Negative, Target::Absolute),
-    Kind::Jump(Condition::Zero, Target::Absolute),
-    Kind::Jump(Condition::Carry, Target::Absolute),
-    Kind::Jump(Condition::Overflow, Target::Absolute),
-    Kind::Call(Target::Relative),
-    Kind::Call(Target::Absolute),
-    Kind::Jump(Condition::Always, Target::Displaced),
-    Kind::Jump(Condition::Negative, Target::Displaced),
-    Kind::Jump(Condition::Zero, Target::Displaced),
-    Kind::Jump(Condition::Carry, Target::Displaced),
-    Kind::Jump(Condition::Overflow, Target::Displaced),
-    Kind::Call(Target::Displaced),
-];
-
 // Where a word stands in the table; 40 for an undefined word.
 fn place_of(word: u16) -> u8
     ensures { λ r. ⌜ r ≡ placeOf word ⌝ }
@@ -76,12 +32,55 @@ fn place_of(word: u16) -> u8
     39
 }
 
-// Which instruction a word is.
+// Which instruction a word is: the table, in the order of document 01. It is no constant array, which would be laid out anew at each
+// reading.
 pub fn kind_of(word: u16) -> Kind
     ensures { λ r. ⌜ r ≡ kindOf word ⌝ }
 {
-    let n = place_of(word) as usize;
-    if n < 40 { TABLE[n] } else { Kind::Undefined }
+    let place = place_of(word);
+    match place {
+        0 => Kind::Binary(BinaryOp::Add),
+        1 => Kind::Binary(BinaryOp::Sub),
+        2 => Kind::Binary(BinaryOp::And),
+        3 => Kind::Binary(BinaryOp::Or),
+        4 => Kind::Binary(BinaryOp::Xor),
+        5 => Kind::Constant(ConstantOp::Addi),
+        6 => Kind::Constant(ConstantOp::Subi),
+        7 => Kind::Constant(ConstantOp::Ldl),
+        8 => Kind::Constant(ConstantOp::Ldh),
+        9 => Kind::Ld,
+        10 => Kind::St,
+        11 => Kind::Unary(UnaryOp::Sl0),
+        12 => Kind::Unary(UnaryOp::Sl1),
+        13 => Kind::Unary(UnaryOp::Sr0),
+        14 => Kind::Unary(UnaryOp::Sr1),
+        15 => Kind::Unary(UnaryOp::Not),
+        16 => Kind::Nop,
+        17 => Kind::Halt,
+        18 => Kind::Ldsp,
+        19 => Kind::Rts,
+        20 => Kind::Pop,
+        21 => Kind::Push,
+        22 => Kind::Jump(Condition::Always, Target::Relative),
+        23 => Kind::Jump(Condition::Negative, Target::Relative),
+        24 => Kind::Jump(Condition::Zero, Target::Relative),
+        25 => Kind::Jump(Condition::Carry, Target::Relative),
+        26 => Kind::Jump(Condition::Overflow, Target::Relative),
+        27 => Kind::Jump(Condition::Always, Target::Absolute),
+        28 => Kind::Jump(Condition::Negative, Target::Absolute),
+        29 => Kind::Jump(Condition::Zero, Target::Absolute),
+        30 => Kind::Jump(Condition::Carry, Target::Absolute),
+        31 => Kind::Jump(Condition::Overflow, Target::Absolute),
+        32 => Kind::Call(Target::Relative),
+        33 => Kind::Call(Target::Absolute),
+        34 => Kind::Jump(Condition::Always, Target::Displaced),
+        35 => Kind::Jump(Condition::Negative, Target::Displaced),
+        36 => Kind::Jump(Condition::Zero, Target::Displaced),
+        37 => Kind::Jump(Condition::Carry, Target::Displaced),
+        38 => Kind::Jump(Condition::Overflow, Target::Displaced),
+        39 => Kind::Call(Target::Displaced),
+        _ => Kind::Undefined,
+    }
 }
 
 // The word of the table's entry at a place, all other fields zero. No entry stands from 40 on: there the answer is F000, which
