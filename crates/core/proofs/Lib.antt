@@ -1,6 +1,7 @@
 -- Laws about the definitions of `core`, and its theorems.
 pub mod Cycles
 pub mod OneInstruction
+pub mod AtOnce
 pub mod Foreign
 pub mod Bench
 pub mod Refusals

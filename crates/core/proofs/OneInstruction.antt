@@ -16,22 +16,62 @@ use Rattle.isa.specs.declared.Class.the-variants.{Stop, Short, Full}
 use Rattle.isa.specs.declared.Kind.{Kind}
 use Rattle.table.specs.Table.{kindOf}
 use Rattle.words.specs.Arithmetic.{sum}
+use Rattle.alu.specs.declared.Outcome.{Outcome}
 use Rattle.effects.specs.Effect.{stopping, applied}
 use Rattle.effects.specs.declared.Effect.{Effect}
 use Rattle.effects.specs.Cycles.{stopOf}
-use Rattle.effects.specs.Theorems.{AsCycles}
-use Rattle.effects.proofs.Theorems.{cycles-agree}
+use Rattle.effects.specs.Theorems.{AsCycles, Idle}
+use Rattle.effects.proofs.Theorems.{cycles-agree, past-the-last}
 use Rattle.effects.specs.declared.Stop as stop
 use Rattle.effects.specs.declared.Stop.the-variants.{Going, Halted, Undefined}
 use Rattle.effects.specs.declared.Store.the-variants.{Nothing}
 use Rattle.core.specs.State.{Visible, visibleOf, register, reach, changed}
 use Rattle.core.specs.Datapath.{fetched, latched, stopped, second, third, fourthEffect, withEffect, ticked, turn, isLast, laterCycle, cycled}
-use Rattle.core.specs.Instruction.{wordDue, past, effectOf, after, memoryAfter, costAt}
+use Rattle.core.specs.Instruction.{wordDue, past, effectOf, after, memoryAfter, costAt, unlessStopping, secondOf, coreAfter}
 use Rattle.core.specs.Numbers.{isGoing}
 use Rattle.core.specs.Calls.{Progress, advancedBy, advanced, cyclesOn}
-use Rattle.core.specs.Theorems.{Midway, Finished, OneInstruction}
+use Rattle.core.specs.AtOnce.{pastOne}
+use Rattle.core.specs.Theorems.{Midway, OneInstruction}
 use Rattle.core.specs.declared.Core.{Core}
 use Rattle.core.proofs.Cycles.{one-more, no-cycle}
+
+-- q is past the instruction that starts at p, part by part
+pub record Finished (p q : Progress) : Type 0 where
+  pub visible : visibleOf (q .core) ≡ after (p .memory) (visibleOf (p .core))
+  pub ir : q .core .ir ≡ coreAfter (p .memory) (p .core) .ir
+  pub ra : q .core .ra ≡ coreAfter (p .memory) (p .core) .ra
+  pub rb : q .core .rb ≡ coreAfter (p .memory) (p .core) .rb
+  pub ralu : q .core .ralu ≡ coreAfter (p .memory) (p .core) .ralu
+  pub memory : q .memory ≡ memoryAfter (p .memory) (visibleOf (p .core))
+  pub due : q .core .due ≡ 1
+  pub clock : q .core .clock .0 ≡ p .core .clock .0 + costAt (p .memory) (visibleOf (p .core))
+  pub used : q .used ≡ p .used + costAt (p .memory) (visibleOf (p .core))
+  pub finished : q .finished ≡ p .finished + 1
+
+-- which is all there is
+whole : (p q : Progress) → Finished p q → q ≡ pastOne p
+unfolding pastOne coreAfter
+whole p q f =
+    let v = f .visible in
+    λ j. record {
+      core =
+          record {
+            regs = v j .regs;
+            pc = v j .pc;
+            sp = v j .sp;
+            flags = v j .flags;
+            ir = f .ir j;
+            ra = f .ra j;
+            rb = f .rb j;
+            ralu = f .ralu j;
+            due = f .due j;
+            stop = v j .stop;
+            clock = record { 0 = f .clock j };
+          };
+      memory = f .memory j;
+      used = f .used j;
+      finished = f .finished j;
+    }
 
 -- a core at the start of an instruction, with cycle 1 due and going written out
 abbrev ready : Core → Core
@@ -76,6 +116,17 @@ second-latches Going k c e = refl
 second-latches Halted k c e = cc
 second-latches Undefined k c e = cc
 
+-- RA and RB, by whether cycle 2 stops the core
+keeps : (s : stop.Stop) (new old : ℕ) → (s ≡ Going → ⊥) → old ≡ unlessStopping s new old
+keeps Going new old n = absurd (n refl)
+keeps Halted new old n = refl
+keeps Undefined new old n = refl
+
+takes : (s : stop.Stop) (new old : ℕ) → s ≡ Going → new ≡ unlessStopping s new old
+takes Going new old e = refl
+takes Halted new old e = cc
+takes Undefined new old e = cc
+
 -- the word at PC, its kind, what the instruction sees, and the core after each cycle but the last
 abbrev word : List ℕ → Core → ℕ
 word M c = wordDue M (visibleOf (ready c))
@@ -106,6 +157,17 @@ classes : (M : List ℕ) (c : Core) → Classes (classOf (kind M c) (c .flags)) 
 classes M c =
     cycles-agree (kind M c) (word M c) (fieldT (word M c)) (fieldA (word M c)) (fieldB (word M c)) (c .ralu) (register (c .regs)) M
     (reach (word M c) (past (visibleOf (ready c)))) refl
+
+-- a HALT or undefined word leaves RALU
+ralu-stays : (M : List ℕ) (c : Core) → classOf (kind M c) (c .flags) ≡ Stop → c .ralu ≡ coreAfter M (ready c) .ralu
+unfolding coreAfter
+ralu-stays M c e =
+    let w = word M c in
+    let x = reach w (past (visibleOf (ready c))) in
+    let idle : Idle Stop (kind M c) w (register (c .regs) (fieldA w)) (secondOf w c) (c .ralu) M x =
+    subst (λ (class : Class). Idle class (kind M c) w (register (c .regs) (fieldA w)) (secondOf w c) (c .ralu) M x) e
+    (past-the-last (kind M c) w (register (c .regs) (fieldA w)) (secondOf w c) (c .ralu) M x) in
+    sym (ap (λ (outcome : Outcome). outcome .value) (idle .0))
 
 module _ (M : List ℕ) (c : Core) (u f : ℕ) where
   advance1 : advanced (at (ready c) M u f) ≡ at (after1 M c) M (u + 1) (f + 0)
@@ -279,6 +341,7 @@ same-rt w v effect e =
 module _ (M : List ℕ) (c : Core) (u f : ℕ) where
   stop-class : classOf (kind M c) (c .flags) ≡ Stop → Classes Stop M c
       → Finished (at (ready c) M u f) (cyclesOn (costAt M (visibleOf (ready c))) (at (ready c) M u f))
+  unfolding coreAfter
   stop-class e a =
       let cost = cost-at M c Stop e in
       let stops = second-stops (stopOf (kind M c)) (kind M c) (after1 M c) (a .0) in
@@ -287,6 +350,10 @@ module _ (M : List ℕ) (c : Core) (u f : ℕ) where
       (rw (one M c u f 1 ∙ then 0 (at (after1 M c) M (u + 1) (f + 0)) _ refl (advance2 M c (u + 1) (f + 0) true _ (last-by M c Stop 2 e) stops) ∙ no-cycle _)
       (record {
         visible = sym (after-by M v _ (a .1) ∙ same-rt (word M c) v (stopping (stopOf (kind M c)) (reach (word M c) (past v))) refl);
+        ir = refl;
+        ra = keeps (stopOf (kind M c)) _ (c .ra) (a .0);
+        rb = keeps (stopOf (kind M c)) _ (c .rb) (a .0);
+        ralu = ralu-stays M c e;
         memory = sym (memory-by M v _ (a .1));
         due = refl;
         clock = rw cost (omega arith);
@@ -296,6 +363,7 @@ module _ (M : List ℕ) (c : Core) (u f : ℕ) where
 
   short-class : classOf (kind M c) (c .flags) ≡ Short → Classes Short M c
       → Finished (at (ready c) M u f) (cyclesOn (costAt M (visibleOf (ready c))) (at (ready c) M u f))
+  unfolding coreAfter
   short-class e a =
       let cost = cost-at M c Short e in
       let v = visibleOf (ready c) in
@@ -306,6 +374,10 @@ module _ (M : List ℕ) (c : Core) (u f : ℕ) where
         visible =
             (λ j. record { regs = c .regs; pc = sum (c .pc) 1; sp = c .sp; flags = flags j; stop = Going })
             ∙ sym (after-by M v _ (a .2) ∙ same-rt (word M c) v (reach (word M c) (past v)) refl);
+        ir = refl;
+        ra = takes (stopOf (kind M c)) _ (c .ra) (a .0);
+        rb = takes (stopOf (kind M c)) _ (c .rb) (a .0);
+        ralu = refl;
         memory = sym (memory-by M v _ (a .2));
         due = refl;
         clock = rw cost (omega arith);
@@ -315,6 +387,7 @@ module _ (M : List ℕ) (c : Core) (u f : ℕ) where
 
   full-class : classOf (kind M c) (c .flags) ≡ Full → Classes Full M c
       → Finished (at (ready c) M u f) (cyclesOn (costAt M (visibleOf (ready c))) (at (ready c) M u f))
+  unfolding coreAfter
   full-class e a =
       let cost = cost-at M c Full e in
       let v = visibleOf (ready c) in
@@ -322,6 +395,10 @@ module _ (M : List ℕ) (c : Core) (u f : ℕ) where
       (rw (three M c u f 1 (a .0) (last-by M c Full 2 e) (last-by M c Full 3 e) ∙ then 0 (at (after3 M c) M (u + 1 + 1 + 1) (f + 0 + 0 + 0)) _ refl (advance4 M c (u + 1 + 1 + 1) (f + 0 + 0 + 0) (fourth-last M c)) ∙ no-cycle _)
       (record {
         visible = sym (after-by M v _ (a .1));
+        ir = refl;
+        ra = takes (stopOf (kind M c)) _ (c .ra) (a .0);
+        rb = takes (stopOf (kind M c)) _ (c .rb) (a .0);
+        ralu = refl;
         memory = sym (memory-by M v _ (a .1));
         due = refl;
         clock = rw cost (omega arith);
@@ -360,7 +437,14 @@ claim M c u f = by (classOf (kind M c) (c .flags)) refl (classes M c)
     by Short e a = let a′ : Classes Short M c = subst (λ (class : Class). Classes class M c) e a in (middle Short e (λ l. a′ .0), short-class M c u f e a′)
     by Full e a = let a′ : Classes Full M c = subst (λ (class : Class). Classes class M c) e a in (middle Full e (λ l. a′ .0), full-class M c u f e a′)
 
-pub one-instruction : OneInstruction
-one-instruction p g d =
+by-parts : (p : Progress) → p .core .stop ≡ Going → p .core .due ≡ 1 → Claim p
+by-parts p g d =
     let e = ap (λ (c : Core). at c (p .memory) (p .used) (p .finished)) (is-ready (p .core) g d) in
     subst Claim (sym e) (claim (p .memory) (p .core) (p .used) (p .finished))
+
+pub one-finished : (p : Progress) → p .core .stop ≡ Going → p .core .due ≡ 1
+    → Finished p (cyclesOn (costAt (p .memory) (visibleOf (p .core))) p)
+one-finished p g d = by-parts p g d .1
+
+pub one-instruction : OneInstruction
+one-instruction p g d = (by-parts p g d .0, whole p _ (one-finished p g d))

@@ -66,26 +66,6 @@ unfolding step stepNumber
 step-starts core memory e =
     reply-own _ core memory (steppedReply (costAt memory (visibleOf core)) (instructed memory core) memory) e
 
--- an instruction moves the clock by its cost
-pub clock-of-instruction : (memory : List ℕ) (core : Core)
-    → instructed memory core .core .clock .0 ≡ core .clock .0 + costAt memory (visibleOf core)
-unfolding instructed
-clock-of-instruction memory core = refl
-
--- one turn of a run's loop: a cycle of a going core, its store made, and both counts
-pub one-turn : (b : ℕ) (p : Progress) (turn : Turn) (memory : List ℕ) (count : ℕ) → p .used < b → isGoing (p .core .stop) ≡ true
-    → turn ≡ cycled (p .memory) (p .core) → memory ≡ applied (turn .store) (p .memory) → count ≡ bit (turn .finished)
-    → cyclesOn (b - p .used) p
-    ≡ cyclesOn (b - (p .used + 1))
-    (record { core = turn .core; memory = memory; used = p .used + 1; finished = p .finished + count })
-unfolding advanced
-one-turn b p turn memory count below going t m f =
-    let left = b - (p .used + 1) in
-    let next : advanced p ≡ record { core = turn .core; memory = memory; used = p .used + 1; finished = p .finished + count } =
-    sym (ap (λ (x : Turn). advancedBy x p) t)
-    ∙ sym (λ j. record { core = turn .core; memory = m j; used = p .used + 1; finished = p .finished + f j }) in
-    ap (λ (n : ℕ). cyclesOn n p) (omega arith) ∙ one-more left p going ∙ ap (cyclesOn left) next
-
 -- a run that has done its cycles
 pub run-over : (b : ℕ) (p : Progress) → b ≤ p .used → cyclesOn (b - p .used) p ≡ p
 run-over b p e = ap (λ (n : ℕ). cyclesOn n p) (omega arith) ∙ no-cycle p

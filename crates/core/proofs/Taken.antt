@@ -15,7 +15,7 @@ use Rattle.core.specs.Calls.{ran, viewed, cyclesOn, starting, endOf, due
 use Rattle.core.specs.TheoremsOfCalls.{Taken, loadNumbers, runNumbers, stepNumbers, viewNumbers, RunTaken, StepTaken, OthersTaken}
 use Rattle.core.specs.declared.Core.{Core}
 use Rattle.core.proofs.Cycles.{only-going, cost-range}
-use Rattle.core.proofs.OneInstruction.{one-instruction}
+use Rattle.core.proofs.OneInstruction.{one-finished}
 use Rattle.core.proofs.Refusals.{none-found, none-applies, not-false, Ready, ready, due-when, load-found, run-found, step-found, view-found}
 use Rattle.core.proofs.Endings.{letter, budget, clock-moves}
 
@@ -89,7 +89,7 @@ pub step-taken : StepTaken
 unfolding instructed memoryAfter
 step-taken core memory taken =
     let v = visibleOf core in
-    let f = one-instruction (starting core memory) (step-going core memory taken) (step-due core memory taken) .1 in
+    let f = one-finished (starting core memory) (step-going core memory taken) (step-due core memory taken) in
     let q = cyclesOn (costAt memory v) (starting core memory) in
     let stepped = step-own core memory taken in
     let ranned = run-of-cost core memory taken in

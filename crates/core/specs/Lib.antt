@@ -4,6 +4,7 @@ pub mod Datapath
 pub mod Instruction
 pub mod Numbers
 pub mod Calls
+pub mod AtOnce
 pub mod Answers
 pub mod Theorems
 pub mod TheoremsOfCalls

@@ -17,8 +17,9 @@ use Rattle.effects.specs.declared.Stop.the-variants.{Going, Undefined}
 use Rattle.effects.specs.declared.Store.the-variants.{Nothing}
 use Rattle.core.specs.State.{visibleOf, register, reach, freshVisible, between}
 use Rattle.core.specs.Datapath.{cycled}
-use Rattle.core.specs.Instruction.{past, after, memoryAfter, costAt, instructed}
+use Rattle.core.specs.Instruction.{past, costAt, instructed}
 use Rattle.core.specs.Calls.{Progress, cyclesOn, starting}
+use Rattle.core.specs.AtOnce.{pastOne}
 use Rattle.core.specs.declared.Core.{Core}
 
 -- what cycle 3 gives of the instruction that starts at p, from IR, RA and RB as latched
@@ -48,23 +49,14 @@ pub record Midway (i : ℕ) (p q : Progress) : Type 0 where
   pub idle : i ≤ 2 → q .core .ralu ≡ p .core .ralu
   pub calculated : 3 ≤ i → (q .core .ralu ≡ outcomeOf p (q .core) .value) × (q .core .flags ≡ outcomeOf p (q .core) .flags)
 
--- q is past that instruction, with the memory, registers, PC, SP, flags and stop state that the table gives; cycle 1 is due, its cost is
--- on the clock and in the cycles used, and one more instruction is finished
-pub record Finished (p q : Progress) : Type 0 where
-  pub visible : visibleOf (q .core) ≡ after (p .memory) (visibleOf (p .core))
-  pub memory : q .memory ≡ memoryAfter (p .memory) (visibleOf (p .core))
-  pub due : q .core .due ≡ 1
-  pub clock : q .core .clock .0 ≡ p .core .clock .0 + costAt (p .memory) (visibleOf (p .core))
-  pub used : q .used ≡ p .used + costAt (p .memory) (visibleOf (p .core))
-  pub finished : q .finished ≡ p .finished + 1
-
--- from every going core with cycle 1 due, as many cycles as the instruction at PC costs finish it and do what the table says; fewer leave
--- it midway (proved as `one-instruction`)
+-- from every going core with cycle 1 due, as many cycles as the instruction at PC costs give exactly the core that it leaves (what the table
+-- says, and the hidden registers), with its store made and one instruction more finished; fewer leave it midway (proved as
+-- `one-instruction`)
 abbrev pub OneInstruction : Type 0
 OneInstruction =
     (p : Progress) → p .core .stop ≡ Going → p .core .due ≡ 1
     → ((i : ℕ) → i < costAt (p .memory) (visibleOf (p .core)) → Midway i p (cyclesOn i p))
-    × Finished p (cyclesOn (costAt (p .memory) (visibleOf (p .core))) p)
+    × (cyclesOn (costAt (p .memory) (visibleOf (p .core))) p ≡ pastOne p)
 
 -- 'A core that no call made may have, in cycle 3 or 4, an IR word whose listed cost under its flags is below the cycle due. That cycle
 -- finishes the instruction and changes nothing else but the clock': cycle 1 is due, as after every last cycle (proved as

@@ -3,20 +3,22 @@
 // as it was handed in, whatever becomes of it.
 ghost use mathlib.Core.Path.{_≡_};
 ghost use mathlib.Core.Bool.{cond};
-ghost use Prim.Native.Nat.{_+_, _≤_, _<_};
+ghost use Prim.Native.Nat.{_+_, _-_, _≤_, _<_};
 ghost use lib.ListN.{set};
 ghost use Rattle.effects.specs.Cycles.{stopOf};
-ghost use Rattle.core.specs.State.{visibleOf, register, reach, between, freshCore};
+ghost use Rattle.core.specs.State.{visibleOf, register, reach, freshCore};
 ghost use Rattle.core.specs.Datapath.{fetched, latched, stopped, second, withResult, third, withEffect, dueAfter, ticked, turn, isLast, laterCycle, cycled};
-ghost use Rattle.core.specs.Instruction.{executedOn, instructed};
+ghost use Rattle.core.specs.Instruction.{memoryAfter, unlessStopping, coreAfter, withoutHidden};
+ghost use Rattle.core.specs.AtOnce.{coreOf, restOf, beforeOf, executedOf, stateAfter, goesOn, instructionsOn, ahead, reached};
 ghost use Rattle.listing.specs.Answers.{storeAnswer};
 ghost use Rattle.words.specs.Arithmetic.{bit};
 ghost use Rattle.effects.specs.Effect.{applied};
 ghost use Rattle.core.specs.Numbers.{wrongLength, isGoing, clockFull, viewNumber, loadNumber, runNumber};
-ghost use Rattle.core.specs.Calls.{ran, refused, loadAnswer, goingEnd, endOf, dueOne, dueInRange, reset, load, run, step, view};
+ghost use Rattle.core.specs.Calls.{ran, refused, loadAnswer, goingEnd, endOf, dueOne, dueInRange, advanced, starting, reset, load, run, step, view};
 ghost use Rattle.core.specs.Answers.{refusalNumber, verdictNumber, loadAnswerOf, runAnswerOf, shown, resetGave, loadGave, runGave, viewGave};
 use alu::Outcome;
 use effects::Effect;
+use effects::Executed;
 use effects::Stop;
 use effects::Store;
 use isa::Cycles;
@@ -49,6 +51,26 @@ pub struct Turn {
     pub core: Core,
     pub finished: bool,
     pub store: Store,
+}
+
+// All of a core with cycle 1 due but its bank of registers. Instructions are executed on the two apart, so that the bank is not copied.
+struct State {
+    pc: u16,
+    sp: u16,
+    flags: Flags,
+    ir: u16,
+    ra: u16,
+    rb: u16,
+    ralu: u16,
+    stop: Stop,
+    clock: Cycles,
+}
+
+// A core some cycles on, how many they are, and how many instructions they finished.
+struct Advance {
+    core: Core,
+    cycles: Cycles,
+    instructions: Instructions,
 }
 
 // How a run or a step ends: H halted, U undefined, B with cycle 1 due, M in the middle of an instruction.
@@ -150,21 +172,16 @@ pub fn fresh() -> Core
     }
 }
 
-fn register_of(regs: [u16; 16], i: u8) -> u16
-    ensures { λ r. ⌜ r ≡ register regs i ⌝ }
+fn register_of(regs: &[u16], i: u8) -> u16
+    ensures { λ r. ⌜ r ≡ register (now (regs .entry)) i ⌝ }
 {
-    let at = i as usize;
-    if at < 16 { regs[at] } else { 0 }
+    words::read(regs, i as u16)
 }
 
-fn with_register(mut regs: [u16; 16], i: u8, value: u16) -> [u16; 16]
-    ensures { λ r. ⌜ r ≡ set regs i value ⌝ }
+fn set_register(regs: &mut [u16], i: u8, value: u16)
+    ensures { λ _. ⌜ now (regs .exit) ≡ set (now (regs .entry)) i value ⌝ }
 {
-    let at = i as usize;
-    if at < 16 {
-        regs[at] = value;
-    }
-    regs
+    words::write(regs, i as u16, value)
 }
 
 fn due_after(finished: bool, due: u8) -> u8
@@ -285,6 +302,121 @@ fn apply(store: Store, memory: &mut [u16])
     }
 }
 
+fn goes_on(state: State, end: u32) -> bool
+    requires { ⌜ state .clock .0 ≤ end ⌝ }
+    ensures { λ r. ⌜ r ≡ goesOn (state .stop) (end - state .clock .0) ⌝ }
+{
+    let stop = state.stop;
+    if end - state.clock.0 < 4 {
+        return false;
+    }
+    is_going(stop)
+}
+
+// A core of its two parts.
+fn joined(state: State, regs: [u16; 16]) -> Core
+    ensures { λ r. ⌜ r ≡ coreOf state regs ⌝ }
+{
+    let flags = state.flags;
+    let stop = state.stop;
+    let clock = state.clock;
+    Core {
+        regs: regs,
+        pc: state.pc,
+        sp: state.sp,
+        flags: flags,
+        ir: state.ir,
+        ra: state.ra,
+        rb: state.rb,
+        ralu: state.ralu,
+        due: 1,
+        stop: stop,
+        clock: clock,
+    }
+}
+
+// What RA or RB takes, but where the instruction stops the core.
+fn latched_value(stop: Stop, new: u16, old: u16) -> u16
+    ensures { λ r. ⌜ r ≡ unlessStopping stop new old ⌝ }
+{
+    match stop {
+        Stop::Going => new,
+        Stop::Halted => old,
+        Stop::Undefined => old,
+    }
+}
+
+impl State {
+    // What an instruction can change, as it is with PC one past it.
+    fn before(self, rt: u16) -> Effect
+        ensures { λ r. ⌜ r ≡ beforeOf self rt ⌝ }
+    {
+        let flags = self.flags;
+        let stop = self.stop;
+        Effect {
+            rt: rt,
+            pc: words::add(self.pc, 1),
+            sp: self.sp,
+            flags: flags,
+            stop: stop,
+            store: Store::Nothing,
+        }
+    }
+
+    // The instruction `word` by the table, on the registers that it names.
+    fn execute(self, kind: Kind, word: u16, regs: &[u16], memory: &[u16]) -> Executed
+        ensures { λ r. ⌜ r ≡ executedOf kind word (now (regs .entry)) (now (memory .entry)) self ⌝ }
+    {
+        let ra = register_of(regs, isa::field_a(word));
+        let rb = register_of(regs, isa::field_b(word));
+        let before = self.before(register_of(regs, isa::field_t(word)));
+        effects::execute(kind, word, ra, rb, self.ralu, memory, before)
+    }
+
+    // The state after that instruction, with the hidden registers as its cycles leave them; `regs` are the registers before it.
+    fn after(self, kind: Kind, word: u16, regs: &[u16], done: Executed) -> State
+        requires { ⌜ self .clock .0 + 4 ≤ 4294967295 ⌝ }
+        ensures { λ r. ⌜ r ≡ stateAfter kind word (now (regs .entry)) done self ⌝ }
+    {
+        let flags = self.flags;
+        let stop = effects::stop_of(kind);
+        let cost = isa::cost(kind, flags);
+        let ra = register_of(regs, isa::field_a(word));
+        let second = isa::second_register(kind, isa::field_t(word), isa::field_b(word));
+        let rb = register_of(regs, second);
+        let effect = done.effect;
+        let flags_after = effect.flags;
+        let stop_after = effect.stop;
+        State {
+            pc: effect.pc,
+            sp: effect.sp,
+            flags: flags_after,
+            ir: word,
+            ra: latched_value(stop, ra, self.ra),
+            rb: latched_value(stop, rb, self.rb),
+            ralu: done.ralu,
+            stop: stop_after,
+            clock: Cycles(self.clock.0 + cost.0),
+        }
+    }
+
+    // The instruction engine: the instruction at PC, with the bank and the memory changed where they lie.
+    fn instruct(self, regs: &mut [u16], memory: &mut [u16]) -> State
+        requires { ⌜ self .clock .0 + 4 ≤ 4294967295 ⌝ }
+        ensures { λ r. ⌜ (coreOf r (now (regs .exit)) ≡ coreAfter (now (memory .entry)) (coreOf self (now (regs .entry)))) × (now (memory .exit) ≡ memoryAfter (now (memory .entry)) (visibleOf (coreOf self (now (regs .entry))))) ⌝ }
+    {
+        let word = words::read(memory, self.pc);
+        let kind = table::kind_of(word);
+        let done = self.execute(kind, word, regs, memory);
+        let next = self.after(kind, word, regs, done);
+        let effect = done.effect;
+        let store = effect.store;
+        set_register(regs, isa::field_t(word), effect.rt);
+        apply(store, memory);
+        next
+    }
+}
+
 impl Core {
     // Cycle 1: IR takes M(PC); PC+1.
     fn fetch(mut self, memory: &[u16]) -> Core
@@ -304,8 +436,8 @@ impl Core {
         let t = isa::field_t(word);
         let a = isa::field_a(word);
         let b = isa::field_b(word);
-        self.ra = register_of(regs, a);
-        self.rb = register_of(regs, isa::second_register(kind, t, b));
+        self.ra = register_of(&regs, a);
+        self.rb = register_of(&regs, isa::second_register(kind, t, b));
         self
     }
 
@@ -359,7 +491,7 @@ impl Core {
         let flags = self.flags;
         let stop = self.stop;
         Effect {
-            rt: register_of(regs, isa::field_t(self.ir)),
+            rt: register_of(&regs, isa::field_t(self.ir)),
             pc: self.pc,
             sp: self.sp,
             flags: flags,
@@ -376,12 +508,12 @@ impl Core {
         self.with_result(outcome)
     }
 
-    // An effect put into the core, all but its store: for cycle 4 and for the instruction engine.
+    // An effect put into the core, all but its store.
     fn with_effect(self, effect: Effect) -> Core
         ensures { λ r. ⌜ r ≡ withEffect effect self ⌝ }
     {
-        let before = self.regs;
-        let regs = with_register(before, isa::field_t(self.ir), effect.rt);
+        let mut regs = self.regs;
+        set_register(&mut regs, isa::field_t(self.ir), effect.rt);
         let flags = effect.flags;
         let stop = effect.stop;
         let clock = self.clock;
@@ -467,48 +599,86 @@ impl Core {
         self.later_cycle(table::kind_of(self.ir), memory)
     }
 
-    // The instruction in IR by the table.
-    fn execute(self, kind: Kind, memory: &[u16]) -> Effect
-        ensures { λ r. ⌜ r ≡ executedOn kind (self .ir) (now (memory .entry)) (visibleOf self) ⌝ }
+    // One cycle, its store made.
+    fn one_cycle(self, memory: &mut [u16]) -> Advance
+        requires { ⌜ self .clock .0 < 4294967295 ⌝ }
+        ensures { λ r. ⌜ reached r (now (memory .exit)) ≡ advanced (starting self (now (memory .entry))) ⌝ }
     {
-        let regs = self.regs;
-        let word = self.ir;
-        let ra = register_of(regs, isa::field_a(word));
-        let rb = register_of(regs, isa::field_b(word));
-        effects::execute(kind, word, ra, rb, memory, self.reach())
+        let turn = self.cycle(memory);
+        let store = turn.store;
+        let core = turn.core;
+        apply(store, memory);
+        Advance {
+            core: core,
+            cycles: Cycles(1),
+            instructions: Instructions(count_of(turn.finished)),
+        }
     }
 
-    // Past an instruction: hidden registers zero, cycle 1 due, the clock on by its cost.
-    fn rest(mut self, cost: Cycles) -> Core
-        requires { ⌜ self .clock .0 + cost .0 ≤ 4294967295 ⌝ }
-        ensures { λ r. ⌜ r ≡ between (visibleOf self) (self .clock .0 + cost .0) ⌝ }
+    // The core without its bank, where cycle 1 is due.
+    fn rest(self) -> State
+        ensures { λ r. ⌜ r ≡ restOf self ⌝ }
+    {
+        let flags = self.flags;
+        let stop = self.stop;
+        let clock = self.clock;
+        State {
+            pc: self.pc,
+            sp: self.sp,
+            flags: flags,
+            ir: self.ir,
+            ra: self.ra,
+            rb: self.rb,
+            ralu: self.ralu,
+            stop: stop,
+            clock: clock,
+        }
+    }
+
+    // Whole instructions of a core with cycle 1 due, as long as it is going and 4 cycles of the budget are left, the most that one takes:
+    // just one, of a budget of 4.
+    fn instructions(self, b: u32, memory: &mut [u16]) -> Advance
+        requires { ⌜ (self .due ≡ 1) × (self .clock .0 + b ≤ 4294967295) ⌝ }
+        ensures { λ r. ⌜ reached r (now (memory .exit)) ≡ instructionsOn b b (starting self (now (memory .entry))) ⌝ }
+    {
+        let mut regs = self.regs;
+        let mut state = self.rest();
+        let mut count = Instructions(0);
+        let start = state.clock.0;
+        while goes_on(state, start + b) {
+            state = state.instruct(&mut regs, memory);
+            count.0 += 1;
+        }
+        let cycles = Cycles(state.clock.0 - start);
+        Advance {
+            core: joined(state, regs),
+            cycles: cycles,
+            instructions: count,
+        }
+    }
+
+    // Instructions where they can be had at once, else one cycle.
+    fn advance(self, b: u32, memory: &mut [u16]) -> Advance
+        requires { ⌜ (1 ≤ b) × (self .clock .0 + b ≤ 4294967295) ⌝ }
+        ensures { λ r. ⌜ reached r (now (memory .exit)) ≡ ahead b (starting self (now (memory .entry))) ⌝ }
+    {
+        if self.due == 1 {
+            if 4 <= b {
+                return self.instructions(b, memory);
+            }
+        }
+        self.one_cycle(memory)
+    }
+
+    // The hidden registers zero.
+    fn without_hidden(mut self) -> Core
+        ensures { λ r. ⌜ r ≡ withoutHidden self ⌝ }
     {
         self.ir = 0;
         self.ra = 0;
         self.rb = 0;
         self.ralu = 0;
-        self.due = 1;
-        let clock = Cycles(self.clock.0 + cost.0);
-        self.clock = clock;
         self
-    }
-
-    // The instruction engine: one instruction of a core with cycle 1 due. The store is the caller's to make.
-    fn instruction(self, memory: &[u16]) -> Turn
-        requires { ⌜ self .clock .0 + 4 ≤ 4294967295 ⌝ }
-        ensures { λ r. ⌜ r ≡ instructed (now (memory .entry)) self ⌝ }
-    {
-        let core = self.fetch(memory);
-        let kind = table::kind_of(core.ir);
-        let flags = core.flags;
-        let cost = isa::cost(kind, flags);
-        let effect = core.execute(kind, memory);
-        let store = effect.store;
-        Turn {
-            core: core.with_effect(effect).rest(cost),
-            finished: true,
-            store: store,
-        }
     }
 
     fn one_due(self) -> bool
@@ -624,12 +794,10 @@ impl Core {
             if !is_going(stop) {
                 return self.ran(used, finished);
             }
-            let turn = self.cycle(memory);
-            let store = turn.store;
-            apply(store, memory);
-            used.0 += 1;
-            finished.0 += count_of(turn.finished);
-            let next = turn.core;
+            let more = self.advance(b - used.0, memory);
+            used.0 += more.cycles.0;
+            finished.0 += more.instructions.0;
+            let next = more.core;
             self = next;
         }
         self.ran(used, finished)
@@ -645,13 +813,11 @@ impl Core {
         if let Verdict::Refused(why) = verdict {
             return self.run_refused(why);
         }
-        let executed = self.instruction(memory);
-        let store = executed.store;
-        apply(store, memory);
-        let next = executed.core;
-        self = next;
-        let used = self.clock.0 - clock.0;
-        self.ran(Cycles(used), Instructions(1))
+        let one = self.instructions(4, memory);
+        let used = one.cycles;
+        let next = one.core;
+        self = next.without_hidden();
+        self.ran(used, Instructions(1))
     }
 
     // All but the hidden registers; where it is refused, the snapshot is that of a fresh core.

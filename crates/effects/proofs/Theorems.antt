@@ -8,8 +8,9 @@ use lib.ListN.{length}
 use lib.Seq.{getD-set-same}
 use Rattle.words.specs.Memory.{wordAt, stored}
 use Rattle.words.specs.Arithmetic.{sum, difference}
-use Rattle.isa.specs.Control.{taken}
+use Rattle.isa.specs.Control.{taken, secondRegister}
 use Rattle.isa.specs.Cost.{jumpClass}
+use Rattle.isa.specs.declared.Kind.{Kind}
 use Rattle.isa.specs.declared.Kind.the-variants.{Undefined, Binary, Constant, Ld, St, Unary, Nop, Halt, Ldsp, Rts, Pop, Push, Jump, Call}
 use Rattle.effects.specs.Effect.{toRt, toPc, toSp}
 use Rattle.effects.specs.Table.{executed}
@@ -37,6 +38,23 @@ cycles-agree (Jump condition target) w t a b RALU register M x e = by-taken (tak
     by-taken true h = rw h (refl, cc)
     by-taken false h = rw h (refl, refl, refl)
 cycles-agree (Call target) w t a b RALU register M x e = (refl, refl)
+
+-- what cycle 2 latches into RB, by the value or by the register
+pub second-of : (k : Kind) (t b : ℕ) (register : ℕ → ℕ) → secondRegister k (register t) (register b) ≡ register (secondRegister k t b)
+second-of Undefined t b register = refl
+second-of (Binary op) t b register = refl
+second-of (Constant op) t b register = refl
+second-of Ld t b register = refl
+second-of St t b register = refl
+second-of (Unary op) t b register = refl
+second-of Nop t b register = refl
+second-of Halt t b register = refl
+second-of Ldsp t b register = refl
+second-of Rts t b register = refl
+second-of Pop t b register = refl
+second-of Push t b register = refl
+second-of (Jump condition target) t b register = refl
+second-of (Call target) t b register = refl
 
 pub past-the-last : PastTheLast
 past-the-last Undefined w RA RB RALU M x = (refl, refl)

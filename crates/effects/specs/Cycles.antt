@@ -5,15 +5,16 @@ use mathlib.Core.List.{List}
 use Rattle.words.specs.Memory.{wordAt}
 use Rattle.words.specs.Arithmetic.{sum}
 use Rattle.isa.specs.Fields.{fieldK}
-use Rattle.isa.specs.Control.{taken, jumpTarget, callTarget}
+use Rattle.isa.specs.Control.{taken, jumpTarget, callTarget, secondRegister}
 use Rattle.isa.specs.declared.Kind.{Kind}
 use Rattle.isa.specs.declared.Kind.the-variants.{Undefined, Binary, Constant, Ld, St, Unary, Nop, Halt, Ldsp, Rts, Pop, Push, Jump, Call}
 use Rattle.alu.specs.Flags.{silent}
 use Rattle.alu.specs.Results.{binaryResult, constantResult, unaryResult}
 use Rattle.alu.specs.declared.Outcome.{Outcome}
 use Rattle.effects.specs.Effect.{toRt, toPc, toSp, storing, pushed}
-use Rattle.effects.specs.Table.{jumped}
+use Rattle.effects.specs.Table.{jumped, executed}
 use Rattle.effects.specs.declared.Effect.{Effect}
+use Rattle.effects.specs.declared.Executed.{Executed}
 use Rattle.effects.specs.declared.Stop.{Stop}
 use Rattle.effects.specs.declared.Stop as stop
 use Rattle.effects.specs.declared.Stop.the-variants.{Going, Halted}
@@ -70,3 +71,11 @@ writtenBack Pop RB RALU M x = toRt (wordAt M RALU) (toSp RALU x)
 writtenBack Push RB RALU M x = pushed RB x
 writtenBack (Jump condition target) RB RALU M x = jumped (taken condition (x .flags)) RALU x
 writtenBack (Call target) RB RALU M x = toPc RALU (pushed (x .pc) x)
+
+-- an instruction at once: what the table says of it, and the value that its cycles leave in RALU, from RA and RB as cycle 2 latches them
+abbrev pub withRalu : ℕ → Effect → Executed
+withRalu RALU x = record { effect = x; ralu = RALU }
+
+abbrev pub atOnce : Kind → ℕ → ℕ → ℕ → ℕ → List ℕ → Effect → Executed
+atOnce k w ra rb RALU M x =
+    withRalu (calculated k w ra (secondRegister k (x .rt) rb) RALU x .value) (executed k w ra rb M x)

@@ -3,8 +3,8 @@
 ghost use mathlib.Core.Path.{_≡_};
 ghost use Rattle.alu.specs.Flags.{silent as quiet};
 ghost use Rattle.effects.specs.Effect.{toRt, toPc, toSp, stopping, storing, result, pushed};
-ghost use Rattle.effects.specs.Table.{jumped, executed};
-ghost use Rattle.effects.specs.Cycles.{stopOf, calculated, writtenBack};
+ghost use Rattle.effects.specs.Table.{jumped};
+ghost use Rattle.effects.specs.Cycles.{stopOf, calculated, writtenBack, withRalu, atOnce};
 use alu::Outcome;
 use isa::Condition;
 use isa::Flags;
@@ -31,6 +31,12 @@ pub struct Effect {
     pub flags: Flags,
     pub stop: Stop,
     pub store: Store,
+}
+
+// What an instruction does at once, and what its cycles leave in RALU.
+pub struct Executed {
+    pub effect: Effect,
+    pub ralu: u16,
 }
 
 fn to_rt(mut effect: Effect, value: u16) -> Effect
@@ -117,35 +123,66 @@ fn jump(effect: Effect, goes: bool, target: u16) -> Effect
     if goes { to_pc(effect, target) } else { effect }
 }
 
-// A whole instruction, by the table: `ra` and `rb` are Ra and Rb, and PC of `before` is one past the instruction.
-pub fn execute(kind: Kind, word: u16, ra: u16, rb: u16, memory: &[u16], before: Effect) -> Effect
-    ensures { λ r. ⌜ r ≡ executed kind word ra rb (now (memory .entry)) before ⌝ }
+fn with_ralu(effect: Effect, ralu: u16) -> Executed
+    ensures { λ r. ⌜ r ≡ withRalu ralu effect ⌝ }
+{
+    Executed {
+        effect: effect,
+        ralu: ralu,
+    }
+}
+
+// ADD to NOT: RALU takes the value that Rt takes.
+fn arithmetic(effect: Effect, outcome: Outcome) -> Executed
+    ensures { λ r. ⌜ r ≡ withRalu (outcome .value) (result outcome effect) ⌝ }
+{
+    with_ralu(with_result(effect, outcome), outcome.value)
+}
+
+// A whole instruction, by the table: `ra` and `rb` are Ra and Rb, `ralu` is RALU, and PC of `before` is one past the instruction.
+pub fn execute(
+    kind: Kind,
+    word: u16,
+    ra: u16,
+    rb: u16,
+    ralu: u16,
+    memory: &[u16],
+    before: Effect,
+) -> Executed
+    ensures { λ r. ⌜ r ≡ atOnce kind word ra rb ralu (now (memory .entry)) before ⌝ }
 {
     let flags = before.flags;
     let pc = before.pc;
+    let rt = before.rt;
     let above = words::add(before.sp, 1);
+    let sum = words::add(ra, rb);
     match kind {
-        Kind::Undefined => with_stop(before, Stop::Undefined),
-        Kind::Binary(op) => with_result(before, alu::binary(op, ra, rb, flags)),
-        Kind::Constant(op) => with_result(
-            before,
-            alu::constant(op, before.rt, isa::field_k(word), flags),
+        Kind::Undefined => with_ralu(with_stop(before, Stop::Undefined), ralu),
+        Kind::Binary(op) => arithmetic(before, alu::binary(op, ra, rb, flags)),
+        Kind::Constant(op) => arithmetic(before, alu::constant(op, rt, isa::field_k(word), flags)),
+        Kind::Ld => with_ralu(to_rt(before, words::read(memory, sum)), sum),
+        Kind::St => with_ralu(with_store(before, sum, rt), sum),
+        Kind::Unary(op) => arithmetic(before, alu::unary(op, ra, flags)),
+        Kind::Nop => with_ralu(before, ralu),
+        Kind::Halt => with_ralu(with_stop(before, Stop::Halted), ralu),
+        Kind::Ldsp => with_ralu(to_sp(before, ra), ra),
+        Kind::Rts => with_ralu(
+            to_pc(to_sp(before, above), words::read(memory, above)),
+            above,
         ),
-        Kind::Ld => to_rt(before, words::read(memory, words::add(ra, rb))),
-        Kind::St => with_store(before, words::add(ra, rb), before.rt),
-        Kind::Unary(op) => with_result(before, alu::unary(op, ra, flags)),
-        Kind::Nop => before,
-        Kind::Halt => with_stop(before, Stop::Halted),
-        Kind::Ldsp => to_sp(before, ra),
-        Kind::Rts => to_pc(to_sp(before, above), words::read(memory, above)),
-        Kind::Pop => to_rt(to_sp(before, above), words::read(memory, above)),
-        Kind::Push => push(before, before.rt),
-        Kind::Jump(condition, target) => jump(
-            before,
-            isa::is_taken(condition, flags),
-            isa::jump_target(target, word, pc, ra),
+        Kind::Pop => with_ralu(
+            to_rt(to_sp(before, above), words::read(memory, above)),
+            above,
         ),
-        Kind::Call(target) => to_pc(push(before, pc), isa::call_target(target, word, pc, ra)),
+        Kind::Push => with_ralu(push(before, rt), rt),
+        Kind::Jump(condition, target) => {
+            let to = isa::jump_target(target, word, pc, ra);
+            with_ralu(jump(before, isa::is_taken(condition, flags), to), to)
+        }
+        Kind::Call(target) => {
+            let to = isa::call_target(target, word, pc, ra);
+            with_ralu(to_pc(push(before, pc), to), to)
+        }
     }
 }
 

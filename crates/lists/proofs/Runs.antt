@@ -14,10 +14,9 @@ use Rattle.core.specs.State.{visibleOf}
 use Rattle.core.specs.Instruction.{wordDue, costAt}
 use Rattle.core.specs.Numbers.{isGoing}
 use Rattle.core.specs.Calls.{Progress, cyclesOn, starting}
-use Rattle.core.specs.Theorems.{Finished}
 use Rattle.core.specs.declared.Core.{Core}
 use Rattle.core.proofs.Cycles.{only-going, no-cycle, none-more, cycles-add, counted, cycles-counted, cost-range}
-use Rattle.core.proofs.OneInstruction.{one-instruction}
+use Rattle.core.proofs.OneInstruction.{Finished, one-finished, one-instruction}
 use Rattle.lists.specs.Machine.{Logged, cyclesOf, Loop, goesOn, afterOne, looped, used, spentAfter}
 
 -- the cost of the instruction at the start of which p is
@@ -198,7 +197,7 @@ arrives (suc n) t log p d l = arrives-if (suc n) t log p d (λ g m. on g m (arri
         → Arrived p (cyclesOn t p) (loopAt p t log) (looped n (loopAt p t log)))
         → Arrived p (cyclesOn t p) (loopAt p t log) (looped (suc n) (loopAt p t log))
     on g m ih =
-        let f = one-instruction p (only-going (p .core .stop) g) d .1 in
+        let f = one-finished p (only-going (p .core .stop) g) d in
         let c = costNow p in
         let enough = le-leb c t m in
         let x = loopAt p t log in

@@ -17,7 +17,7 @@ use Rattle.core.specs.Numbers.{wrongLength, isGoing, runNumber}
 use Rattle.core.specs.Calls.{Reply, Progress, advanced, cyclesOn, steppedReply, dueOne, step}
 use Rattle.core.specs.declared.Core.{Core}
 use Rattle.core.proofs.Cycles.{no-cycle, one-more, none-more, cycles-add, only-going, cost-range}
-use Rattle.core.proofs.OneInstruction.{one-instruction}
+use Rattle.core.proofs.OneInstruction.{one-finished, one-instruction}
 use Rattle.core.proofs.Replies.{passed, none-left, step-starts, applied-length}
 use Rattle.layout.specs.Layout.{flagsNumber}
 use Rattle.trace.specs.Trace.{cyclesOf, rowOf, rowsOf}
@@ -79,7 +79,7 @@ module _ (q : Progress) (core : Core) (memory : List ℕ) (b : ℕ) (s : Same q 
   unfolding instructed memoryAfter
   taken going within =
       let c = costAt memory (visibleOf core) in
-      let f = rw cost at (one-instruction q going (s .due) .1) in
+      let f = rw cost at (one-finished q going (s .due)) in
       let stepped = step-is (sym (ap (λ (v : Visible). v .stop) (s .visible)) ∙ going) in
       let put = ap (λ (r : Reply). r .memory) stepped in
       record {

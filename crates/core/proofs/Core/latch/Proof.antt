@@ -1,9 +1,9 @@
 -- `core::Core::latch` meets its contract: RA and RB by the fields of IR. Assumes nothing.
 use mathlib.Core.Path.{_≡_, ap, ap₂, _∙_}
-use borrow.Author.Needs.{needs}
-use Rattle.core.specs.State.{register}
-use Rattle.isa.specs.Control.{secondRegister}
 use Rattle.isa.specs.Fields.{fieldT, fieldA, fieldB}
+use Rattle.isa.specs.Control.{secondRegister}
+use Rattle.core.specs.State.{register}
+use borrow.Author.Needs.{needs}
 use Rattle.core.proofs.Core.latch.Statement.{statement}
 use Rattle.core.proofs.Core.latch.Tie as tie
 
@@ -16,8 +16,14 @@ field-a-requires c κs = search needs
 field-b-requires : tie.Need-field-b-requires
 field-b-requires c κs = search needs
 
+slice-aggregate-register-of : tie.Need-slice-aggregate-register-of
+slice-aggregate-register-of c = search needs
+
 register-of-requires : tie.Need-register-of-requires
 register-of-requires c κs = search needs
+
+slice-aggregate-register-of-2 : tie.Need-slice-aggregate-register-of-2
+slice-aggregate-register-of-2 c = search needs
 
 second-register-requires : tie.Need-second-register-requires
 second-register-requires c κs = search needs
@@ -27,13 +33,13 @@ register-of-requires-2 c κs = search needs
 
 returns : tie.Need-returns
 returns c =
-    let l = c .before .before .before in
+    let l = c .before .before .before .before .before in
     let self = l .before .before .before .before .args .self in
     let kind = l .before .before .before .before .args .kind in
     let t = l .before .before .field-t .ensures in
     let b = l .field-b .ensures in
-    let ra : c .before .before .register-of .result ≡ register (self .regs) (fieldA (self .ir)) =
-    c .before .before .register-of .ensures ∙ ap (register (self .regs)) (l .before .field-a .ensures) in
+    let ra : c .before .before .before .register-of .result ≡ register (self .regs) (fieldA (self .ir)) =
+    c .before .before .before .register-of .ensures ∙ ap (register (self .regs)) (l .before .field-a .ensures) in
     let second : c .before .second-register .result ≡ secondRegister kind (fieldT (self .ir)) (fieldB (self .ir)) =
     c .before .second-register .ensures ∙ ap₂ (secondRegister kind) t b in
     let rb = c .register-of2 .ensures ∙ ap (register (self .regs)) second in
@@ -46,7 +52,9 @@ latch-spec =
     field-t-requires
     field-a-requires
     field-b-requires
+    slice-aggregate-register-of
     register-of-requires
+    slice-aggregate-register-of-2
     second-register-requires
     register-of-requires-2
     returns)

@@ -1,10 +1,13 @@
 -- `core::Core::reach` meets its contract: Rt by the field of IR. Assumes nothing.
 use mathlib.Core.Path.{_≡_, ap, _∙_}
-use borrow.Author.Needs.{needs}
-use Rattle.core.specs.State.{register}
 use Rattle.isa.specs.Fields.{fieldT}
+use Rattle.core.specs.State.{register}
+use borrow.Author.Needs.{needs}
 use Rattle.core.proofs.Core.reach.Statement.{statement}
 use Rattle.core.proofs.Core.reach.Tie as tie
+
+slice-aggregate-register-of : tie.Need-slice-aggregate-register-of
+slice-aggregate-register-of c = search needs
 
 field-t-requires : tie.Need-field-t-requires
 field-t-requires c κs = search needs
@@ -14,10 +17,11 @@ register-of-requires c κs = search needs
 
 returns : tie.Need-returns
 returns c =
-    let self = c .before .before .before .before .args .self in
+    let self = c .before .before .before .before .before .args .self in
     let rt : c .register-of .result ≡ register (self .regs) (fieldT (self .ir)) =
     c .register-of .ensures ∙ ap (register (self .regs)) (c .before .field-t .ensures) in
     rw rt
 
 pub reach-spec : {M : Type 1} → statement M
-reach-spec = tie.close (tie.spec field-t-requires register-of-requires returns)
+reach-spec =
+    tie.close (tie.spec slice-aggregate-register-of field-t-requires register-of-requires returns)

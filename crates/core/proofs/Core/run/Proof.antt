@@ -10,11 +10,10 @@ use Rattle.core.specs.Numbers.{runNumber}
 use Rattle.core.specs.Calls.{Reply, Progress, cyclesOn, ranReply, run}
 use Rattle.core.specs.Answers.{verdictNumber}
 use Rattle.core.specs.declared.Core.{Core}
-use Rattle.core.specs.declared.Turn.{Turn}
 use Rattle.core.proofs.Refusals.{not-false, not-true, ready, due-when}
 use Rattle.core.proofs.Cycles.{none-more}
-use Rattle.core.proofs.Endings.{cycle-ticks}
-use Rattle.core.proofs.Replies.{refused-reply, run-starts, one-turn, run-over, bit-small, applied-length}
+use Rattle.core.proofs.Replies.{refused-reply, run-starts, run-over}
+use Rattle.core.proofs.AtOnce.{onward}
 use Rattle.core.proofs.Core.run.Statement.{statement}
 use Rattle.core.proofs.Core.run.Tie as tie
 
@@ -101,54 +100,64 @@ returns-2 c =
     let ended = c .ran .ensures in
     (λ j. record { answer = ended .1 j; core = ended .0 j; memory = l .memory }) ∙ sym (l .inv .left ∙ ap ranReply stopped)
 
-cycle-requires : tie.Need-cycle-requires Inv-loop μ-loop
-cycle-requires c κs =
-    let l = c .before .before .before in
-    omega (arith, l .before .before .loop .inv .room, l .if1 .taken)
+sub-advance : tie.Need-sub-advance Inv-loop μ-loop
+sub-advance c = omega (arith, c .before .before .before .if1 .taken)
 
-apply-requires : tie.Need-apply-requires Inv-loop μ-loop
-apply-requires c κs = search needs
+advance-requires : tie.Need-advance-requires Inv-loop μ-loop
+advance-requires c κs =
+    let l = c .before .before .before .before in
+    (omega (arith, l .if1 .taken), l .before .before .loop .inv .room)
 
 add-used : tie.Need-add-used Inv-loop μ-loop
 add-used c =
-    let l = c .before .before .before .before .before .before .before .before .before in
-    let below : l .before .before .loop .used .0 < c .before .before .before .before .before .before .before .before .before .before .before .before .before .before .before .before .before .before .args .b = l .if1 .taken in
-    omega (arith, below)
-
-count-of-requires : tie.Need-count-of-requires Inv-loop μ-loop
-count-of-requires c κs = search needs
+    let n = c .before .before .before .before in
+    let test = n .before .before .before .before in
+    let l = test .before .before .before .loop in
+    let below = test .before .if1 .taken in
+    let going = not-false _ (ap not (sym (test .is-going .ensures)) ∙ n .before .before .before .if2 .left) in
+    let p = progress (l .self) (l .memory) (l .used .0) (l .finished .0) in
+    let on = onward _ p _ going below (l .inv .low) (l .inv .high) (n .advance .ensures) in
+    omega (arith, below, on .most, test .before .before .before .before .before .before .before .before .before .before .fits .b)
 
 add-finished : tie.Need-add-finished Inv-loop μ-loop
 add-finished c =
-    let turn = c .before .before .before .before .before .before .before .cycle .result in
-    let l = c .before .before .before .before .before .before .before .before .before .before .before in
-    omega (arith, c .before .count-of .ensures, bit-small (turn .finished), l .before .before .loop .inv .few, l .if1 .taken)
+    let n = c .before .before .before .before .before .before in
+    let test = n .before .before .before .before in
+    let l = test .before .before .before .loop in
+    let below = test .before .if1 .taken in
+    let going = not-false _ (ap not (sym (test .is-going .ensures)) ∙ n .before .before .before .if2 .left) in
+    let p = progress (l .self) (l .memory) (l .used .0) (l .finished .0) in
+    let on = onward _ p _ going below (l .inv .low) (l .inv .high) (n .advance .ensures) in
+    omega (arith, below, on .most, on .few, l .inv .few, test .before .before .before .before .before .before .before .before .before .before .fits .b)
 
 loop-less : tie.Need-loop-less Inv-loop μ-loop
-loop-less c = omega (arith, c .before .before .before .before .before .before .before .before .before .before .before .before .if1 .taken)
+loop-less c =
+    let n = c .before .before .before .before .before .before .before in
+    let test = n .before .before .before .before in
+    let l = test .before .before .before .loop in
+    let below = test .before .if1 .taken in
+    let going = not-false _ (ap not (sym (test .is-going .ensures)) ∙ n .before .before .before .if2 .left) in
+    let p = progress (l .self) (l .memory) (l .used .0) (l .finished .0) in
+    let on = onward _ p _ going below (l .inv .low) (l .inv .high) (n .advance .ensures) in
+    omega (arith, below, on .some)
 
 loop-again : tie.Need-loop-again Inv-loop μ-loop
 loop-again c =
-    let turn = c .before .before .before .before .before .before .before .before in
-    let test = turn .before .before .before in
+    let n = c .before .before .before .before .before .before .before in
+    let test = n .before .before .before .before in
     let l = test .before .before .before .loop in
     let below = test .before .if1 .taken in
-    let going = ap not (sym (test .is-going .ensures)) ∙ turn .before .before .if2 .left in
-    let cycled = turn .cycle .ensures in
-    let memory = c .before .before .before .before .before .before .apply .ensures in
-    let count = c .before .before .count-of .ensures in
+    let going = not-false _ (ap not (sym (test .is-going .ensures)) ∙ n .before .before .before .if2 .left) in
     let p = progress (l .self) (l .memory) (l .used .0) (l .finished .0) in
-    let ticks = cycle-ticks (l .memory) (l .self) (l .inv .low) (l .inv .high) in
-    let clock = ap (λ (x : Turn). x .core .clock .0) cycled in
-    let due = ap (λ (x : Turn). x .core .due) cycled in
+    let on = onward _ p _ going below (l .inv .low) (l .inv .high) (n .advance .ensures) in
     record {
-      left = l .inv .left ∙ ap ranReply (one-turn _ p _ _ _ below (not-false _ going) cycled memory count);
-      size = ap length memory ∙ applied-length (turn .cycle .result .store) (l .memory) ∙ l .inv .size;
-      few = omega (arith, count, bit-small (turn .cycle .result .finished), l .inv .few);
-      within = omega (arith, below);
-      room = omega (arith, below, clock, ticks .clock, l .inv .room);
-      low = omega (arith, due, ticks .low);
-      high = omega (arith, due, ticks .high);
+      left = l .inv .left ∙ ap ranReply (on .left);
+      size = on .size ∙ l .inv .size;
+      few = omega (arith, on .few, l .inv .few);
+      within = omega (arith, below, on .most);
+      room = omega (arith, below, on .most, on .clock, l .inv .room);
+      low = on .low;
+      high = on .high;
     }
 
 ran-requires-2 : tie.Need-ran-requires-2 Inv-loop μ-loop
@@ -181,10 +190,9 @@ run-spec =
     ran-requires
     same-length
     returns-2
-    cycle-requires
-    apply-requires
+    sub-advance
+    advance-requires
     add-used
-    count-of-requires
     add-finished
     loop-less
     loop-again

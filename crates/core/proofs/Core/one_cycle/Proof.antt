@@ -1,0 +1,36 @@
+-- `core::Core::one_cycle` meets its contract: the cycle, its store made. Assumes nothing.
+use mathlib.Core.Path.{sym, ap, _∙_}
+use native.Mathlib.Nat.{zero-add}
+use Rattle.words.specs.Arithmetic.{bit}
+use Rattle.effects.specs.Effect.{applied}
+use Rattle.core.specs.Calls.{advanced}
+use Rattle.core.specs.declared.Turn.{Turn}
+use borrow.Author.Needs.{needs}
+use Rattle.core.proofs.Core.one_cycle.Statement.{statement}
+use Rattle.core.proofs.Core.one_cycle.Tie as tie
+
+cycle-requires : tie.Need-cycle-requires
+cycle-requires c κs = search needs
+
+apply-requires : tie.Need-apply-requires
+apply-requires c κs = search needs
+
+count-of-requires : tie.Need-count-of-requires
+count-of-requires c κs = search needs
+
+same-length : tie.Need-same-length
+same-length c = search needs
+
+returns : tie.Need-returns
+unfolding advanced
+returns c =
+    let l = c .before .before .before in
+    let M = l .before .before .before .before .before .before .args .memory .now in
+    let turn = l .before .before .before .cycle .ensures in
+    let memory = l .apply .ensures ∙ ap (λ (t : Turn). applied (t .store) M) turn in
+    let finished = c .count-of .ensures ∙ ap (λ (t : Turn). bit (t .finished)) turn ∙ sym (zero-add _) in
+    λ j. record { core = turn j .core; memory = memory j; used = 1; finished = finished j }
+
+pub one-cycle-spec : {M : Type 1} → statement M
+one-cycle-spec =
+    tie.close (tie.spec cycle-requires apply-requires count-of-requires same-length returns)

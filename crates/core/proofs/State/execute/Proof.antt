@@ -1,0 +1,57 @@
+-- `core::State::execute` meets its contract: from what its callees ensure. Assumes nothing.
+use mathlib.Core.Path.{_≡_, ap, _∙_}
+use Rattle.effects.specs.Cycles.{atOnce}
+use Rattle.core.specs.State.{register}
+use Rattle.core.specs.AtOnce.{beforeOf}
+use borrow.Author.Needs.{needs}
+use Rattle.core.proofs.State.execute.Statement.{statement}
+use Rattle.core.proofs.State.execute.Tie as tie
+
+field-a-requires : tie.Need-field-a-requires
+field-a-requires c κs = search needs
+
+register-of-requires : tie.Need-register-of-requires
+register-of-requires c κs = search needs
+
+field-b-requires : tie.Need-field-b-requires
+field-b-requires c κs = search needs
+
+register-of-requires-2 : tie.Need-register-of-requires-2
+register-of-requires-2 c κs = search needs
+
+field-t-requires : tie.Need-field-t-requires
+field-t-requires c κs = search needs
+
+register-of-requires-3 : tie.Need-register-of-requires-3
+register-of-requires-3 c κs = search needs
+
+before-requires : tie.Need-before-requires
+before-requires c κs = search needs
+
+execute-requires : tie.Need-execute-requires
+execute-requires c κs = search needs
+
+returns : tie.Need-returns
+returns c =
+    let l = c .before .before .before .before in
+    let a = l .before .before .before .before .before .before .args in
+    let regs = a .regs .now in
+    let ra = l .before .before .register-of .ensures ∙ ap (register regs) (l .before .before .before .field-a .ensures) in
+    let rb = l .register-of2 .ensures ∙ ap (register regs) (l .before .field-b .ensures) in
+    let rt = c .before .before .register-of3 .ensures ∙ ap (register regs) (c .before .before .before .field-t .ensures) in
+    let before = c .before .before2 .ensures ∙ ap (beforeOf (a .self)) rt in
+    c .execute .ensures ∙ (λ j. atOnce (a .kind) (a .word) (ra j) (rb j) (a .self .ralu) (a .memory .now) (before j))
+
+pub execute-spec : {M : Type 1} → statement M
+execute-spec =
+    tie.close
+    (tie.spec
+    field-a-requires
+    register-of-requires
+    field-b-requires
+    register-of-requires-2
+    field-t-requires
+    register-of-requires-3
+    before-requires
+    execute-requires
+    returns)
