@@ -29,7 +29,7 @@ pub record Entered (a between w : ℕ) (ended : Bool) (x y : ℕ) : Type 0 where
   pub spaced : between ≡ space
   pub end : ended ≡ true
 
-entered : (a between w : ℕ) (ended : Bool) (x y : ℕ) → entryFrom a between w ended ≡ Entry x y → Entered a between w ended x y
+pub entered : (a between w : ℕ) (ended : Bool) (x y : ℕ) → entryFrom a between w ended ≡ Entry x y → Entered a between w ended x y
 unfolding entryFrom
 entered a between w ended x y = by (ltb a 65536) refl (eqb between space) refl (ltb w 65536) refl ended refl where
   by : (p : Bool) → ltb a 65536 ≡ p → (q : Bool) → eqb between space ≡ q → (r : Bool) → ltb w 65536 ≡ r → (e : Bool) → ended ≡ e

@@ -96,7 +96,7 @@ number-exactly line i n = (
 )
 
 -- a number depends on its four bytes alone
-same-number : (s t : List ℕ) (i j : ℕ) → ((k : ℕ) → k < 4 → getD s (i + k) 0 ≡ getD t (j + k) 0) → numberAt s i ≡ numberAt t j
+pub same-number : (s t : List ℕ) (i j : ℕ) → ((k : ℕ) → k < 4 → getD s (i + k) 0 ≡ getD t (j + k) 0) → numberAt s i ≡ numberAt t j
 unfolding numberAt
 same-number s t i j z =
     let e : getD s i 0 ≡ getD t j 0 = rw (add-zero i, add-zero j) at (z 0 (lit< tt)) in

@@ -1,6 +1,8 @@
 -- Laws on the bytes and lines of a listing.
 pub mod Places
+pub mod Eights
 pub mod Front
 pub mod Theorems
 pub mod Entries
 pub mod Grammar
+pub mod Heads

@@ -1,9 +1,13 @@
 // A listing's lines: what a line says, and the comment call.
 ghost use mathlib.Core.Path.{_≡_};
+ghost use mathlib.Core.Bool.{true};
 ghost use Prim.Native.Nat.{_+_, _≤_, min};
+ghost use lib.Dec.{leb};
 ghost use lib.ListN.{length, drop};
 ghost use Rattle.digits.specs.Digits.{digitValue, Holds};
-ghost use Rattle.lines.specs.Lines.{find, firstLine, afterSpaces, ends, fourDigits, numberAt, entryFrom, entryOf, readLine};
+ghost use Rattle.lines.specs.Lines.{find, firstLine, afterSpaces, fourDigits, numberAt, entryFrom, readLine};
+ghost use Rattle.lines.specs.Heads.{headOf, headLength, headAlone, lineFrom};
+ghost use Rattle.lines.specs.declared.Line.the-variants.{IllFormed};
 ghost use Rattle.lines.specs.Comment.{commentText, commentStart};
 
 const LINE_FEED: u8 = 10;
@@ -26,11 +30,35 @@ pub struct Read {
     pub length: usize,
 }
 
+// Whether none of the eight bytes from a place on is b: all are compared, so that the compiler can compare them at once.
+fn none_of_eight(s: &[u8], i: usize, b: u8) -> bool
+    requires { ⌜ i + 8 ≤ length (now s) ⌝ }
+    ensures { λ r. ⌜ r ≡ leb 8 (find b (drop i (now (s .entry)))) ⌝ }
+{
+    let first = (s[i] != b) & (s[i + 1] != b) & (s[i + 2] != b) & (s[i + 3] != b);
+    let last = (s[i + 4] != b) & (s[i + 5] != b) & (s[i + 6] != b) & (s[i + 7] != b);
+    first & last
+}
+
+// A place that is not past the first byte b: eight bytes a turn.
+fn place_before(s: &[u8], b: u8) -> usize
+    ensures { λ r. ⌜ find b (now (s .entry)) ≡ r + find b (drop r (now (s .entry))) ⌝ }
+{
+    let mut i = 0;
+    while 8 <= s.len() - i {
+        if !none_of_eight(s, i, b) {
+            return i;
+        }
+        i += 8;
+    }
+    i
+}
+
 // The place of the first byte b, the length where there is none.
 fn place_of(s: &[u8], b: u8) -> usize
     ensures { λ r. ⌜ r ≡ find b (now (s .entry)) ⌝ }
 {
-    let mut i = 0;
+    let mut i = place_before(s, b);
     while i < s.len() {
         if s[i] == b {
             return i;
@@ -54,20 +82,8 @@ fn after_spaces(s: &[u8]) -> &[u8]
     &s[i..]
 }
 
-// Spaces or none, then nothing or a comment.
-fn is_end(s: &[u8]) -> bool
-    ensures { λ r. ⌜ r ≡ ends (now (s .entry)) ⌝ }
-{
-    let t = after_spaces(s);
-    if t.len() == 0 {
-        return true;
-    }
-    t[0] == SEMICOLON
-}
-
 fn digit(table: &[u8; 256], b: u8) -> u8
-    requires { ⌜ Holds (now table) ⌝ }
-    ensures { λ r. ⌜ r ≡ digitValue b ⌝ }
+    ensures { λ r. ⌜ (Holds (now (table .entry)) → r ≡ digitValue b) ⌝ }
 {
     table[b as usize]
 }
@@ -93,9 +109,8 @@ fn four_digits(a: u8, b: u8, c: u8, d: u8) -> u32
 
 // The number that four digits from a place on write, 65,536 where one of them is no digit.
 fn number(table: &[u8; 256], s: &[u8], i: usize) -> u32
-    requires { ⌜ Holds (now table) ⌝ }
     requires { ⌜ i + 4 ≤ length (now s) ⌝ }
-    ensures { λ r. ⌜ r ≡ numberAt (now (s .entry)) i ⌝ }
+    ensures { λ r. ⌜ (Holds (now (table .entry)) → r ≡ numberAt (now (s .entry)) i) ⌝ }
 {
     let a = digit(table, s[i]);
     let b = digit(table, s[i + 1]);
@@ -104,8 +119,8 @@ fn number(table: &[u8; 256], s: &[u8], i: usize) -> u32
     four_digits(a, b, c, d)
 }
 
-fn entry_from(address: u32, between: u8, word: u32, ended: bool) -> Line
-    ensures { λ r. ⌜ r ≡ entryFrom address between word ended ⌝ }
+fn entry_from(address: u32, between: u8, word: u32) -> Line
+    ensures { λ r. ⌜ r ≡ entryFrom address between word true ⌝ }
 {
     if 65536 <= address {
         return Line::IllFormed;
@@ -116,37 +131,63 @@ fn entry_from(address: u32, between: u8, word: u32, ended: bool) -> Line
     if 65536 <= word {
         return Line::IllFormed;
     }
-    if ended {
-        return Line::Entry {
-            address: address as u16,
-            word: word as u16,
-        };
+    Line::Entry {
+        address: address as u16,
+        word: word as u16,
     }
-    Line::IllFormed
 }
 
-// A line taken as an entry.
-fn entry_of(line: &[u8]) -> Line
-    ensures { λ r. ⌜ r ≡ entryOf (now (line .entry)) ⌝ }
+// What the first nine bytes say: an entry's numbers, or no entry. None of an entry's is an LF, so its line's end need not be known.
+fn head_of(table: &[u8; 256], rest: &[u8]) -> Line
+    ensures within { λ r. ⌜ headLength r ≤ length (now (rest .entry)) ⌝ }
+    ensures says { λ r. ⌜ (Holds (now (table .entry)) → r ≡ headOf (now (rest .entry))) ⌝ }
 {
-    if line.len() < 9 {
+    if rest.len() < 9 {
         return Line::IllFormed;
     }
-    let table = digits::table();
-    let address = number(&table, line, 0);
-    let word = number(&table, line, 5);
-    let ended = is_end(&line[9..]);
-    entry_from(address, line[4], word, ended)
+    let address = number(table, rest, 0);
+    let word = number(table, rest, 5);
+    entry_from(address, rest[4], word)
 }
 
-fn line_of(line: &[u8]) -> Line
-    ensures { λ r. ⌜ r ≡ readLine (now (line .entry)) ⌝ }
+fn head_length(head: Line) -> usize
+    ensures { λ r. ⌜ r ≡ headLength head ⌝ }
 {
-    let t = after_spaces(line);
-    if t.len() == 0 {
-        return Line::Blank;
+    match head {
+        Line::Blank => 0,
+        Line::Entry {
+            address: _,
+            word: _,
+        } => 9,
+        Line::IllFormed => 0,
     }
-    entry_of(line)
+}
+
+// A line whose head nothing but spaces follows.
+fn alone(head: Line) -> Line
+    ensures { λ r. ⌜ r ≡ headAlone head ⌝ }
+{
+    match head {
+        Line::Blank => head,
+        Line::Entry {
+            address: _,
+            word: _,
+        } => head,
+        Line::IllFormed => Line::Blank,
+    }
+}
+
+// What a line says, by its head and what follows the head and spaces.
+fn line_from(head: Line, t: &[u8]) -> Line
+    ensures { λ r. ⌜ r ≡ lineFrom head (now (t .entry)) ⌝ }
+{
+    if t.len() == 0 {
+        return alone(head);
+    }
+    if t[0] == SEMICOLON {
+        return head;
+    }
+    Line::IllFormed
 }
 
 // The line at the front, without the LF.
@@ -158,16 +199,41 @@ fn first_line(s: &[u8]) -> &[u8]
     &s[..n]
 }
 
+// The line reader for many lines, lent the digits' table: any table is taken, and the line is read where it holds the digits.
+pub fn read_line_by(table: &[u8; 256], rest: &[u8]) -> Read
+    ensures { λ r. ⌜ (Holds (now (table .entry)) → (r .line ≡ readLine (firstLine (now (rest .entry)))) × (r .length ≡ length (firstLine (now (rest .entry))))) ⌝ }
+{
+    let head = head_of(table, rest);
+    let n = head_length(head);
+    let text = first_line(&rest[n..]);
+    let line = line_from(head, after_spaces(text));
+    Read {
+        line,
+        length: n + text.len(),
+    }
+}
+
+// The same for a line that is known not to be ill-formed: what follows its head is not looked at.
+pub fn read_sound_line_by(table: &[u8; 256], rest: &[u8]) -> Read
+    ensures line { λ r. ⌜ (Holds (now (table .entry)) → (readLine (firstLine (now (rest .entry))) ≡ IllFormed → ⊥) → r .line ≡ readLine (firstLine (now (rest .entry)))) ⌝ }
+    ensures length { λ r. ⌜ (Holds (now (table .entry)) → r .length ≡ length (firstLine (now (rest .entry)))) ⌝ }
+{
+    let head = head_of(table, rest);
+    let n = head_length(head);
+    let text = first_line(&rest[n..]);
+    let line = alone(head);
+    Read {
+        line,
+        length: n + text.len(),
+    }
+}
+
 // The line reader: given what is left of a listing, it reads the line at its front; where nothing is left, a blank one.
 pub fn read_line(rest: &[u8]) -> Read
     ensures { λ r. ⌜ (r .line ≡ readLine (firstLine (now (rest .entry)))) × (r .length ≡ length (firstLine (now (rest .entry)))) ⌝ }
 {
-    let text = first_line(rest);
-    let line = line_of(text);
-    Read {
-        line,
-        length: text.len(),
-    }
+    let table = digits::table();
+    read_line_by(&table, rest)
 }
 
 // What follows from a place on; an empty part where that is past the end.

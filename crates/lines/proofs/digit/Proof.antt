@@ -9,7 +9,7 @@ element-copy-out-result c = search needs
 
 returns : tie.Need-returns
 unfolding Holds
-returns c = c .before .pre (c .before .args .b) (search needs)
+returns c = λ h. h (c .before .args .b) (search needs)
 
 pub digit-spec : {M : Type 1} → statement M
 digit-spec = tie.close (tie.spec element-copy-out-result returns)

@@ -42,9 +42,9 @@ four-digits-requires c κs = search needs
 
 returns : tie.Need-returns
 unfolding numberAt
-returns c =
+returns c = λ h.
     let d = c .before .before .before in
-    rw (c .four-digits .ensures, c .before .digit4 .ensures, d .digit3 .ensures, d .before .before .digit2 .ensures, d .before .before .before .before .digit .ensures)
+    rw (c .four-digits .ensures, c .before .digit4 .ensures h, d .digit3 .ensures h, d .before .before .digit2 .ensures h, d .before .before .before .before .digit .ensures h)
 
 pub number-spec : {M : Type 1} → statement M
 number-spec =

@@ -5,7 +5,7 @@ use native.Mathlib.Omega.{arith}
 use borrow.Author.Needs.{needs}
 use lib.ListN.{length, drop}
 use Rattle.lines.specs.Lines.{find}
-use Rattle.lines.proofs.Places.{find-here, find-further, find-nothing}
+use Rattle.lines.proofs.Places.{find-le, find-here, find-further, find-nothing}
 use Rattle.lines.proofs.place_of.Statement.{statement}
 use Rattle.lines.proofs.place_of.Tie as tie
 
@@ -15,8 +15,12 @@ Inv-loop s b i₀ i = (i ≤ length s) × (find b s ≡ i + find b (drop i s))
 abbrev μ-loop : tie.MeasureT-loop
 μ-loop s b i₀ i = length s - i
 
+place-before-requires : tie.Need-place-before-requires Inv-loop μ-loop
+place-before-requires c κs = search needs
+
 loop-holds : tie.Need-loop-holds Inv-loop μ-loop
-loop-holds c = search needs
+loop-holds c =
+    let a = c .before .before .args in (omega (arith, c .place-before .ensures, find-le (a .b) (a .s .now)), c .place-before .ensures)
 
 shared-slice-read-if1 : tie.Need-shared-slice-read-if1 Inv-loop μ-loop
 shared-slice-read-if1 c = search needs
@@ -24,7 +28,7 @@ shared-slice-read-if1 c = search needs
 returns : tie.Need-returns Inv-loop μ-loop
 returns c =
     let l = c .before .before .before in
-    let a = l .before .args in
+    let a = l .before .before .before .args in
     omega (arith, find-here (a .s .now) (a .b) (l .loop .i) (search needs) (c .if1 .taken))
 
 add-i : tie.Need-add-i Inv-loop μ-loop
@@ -36,13 +40,13 @@ loop-less c = search needs
 loop-again : tie.Need-loop-again Inv-loop μ-loop
 loop-again c =
     let l = c .before .before .before in
-    let a = l .before .args in
+    let a = l .before .before .before .args in
     (search needs, omega (arith, find-further (a .s .now) (a .b) (l .loop .i) (search needs) (c .if1 .left)))
 
 returns-2 : tie.Need-returns-2 Inv-loop μ-loop
 returns-2 c =
     let l = c .before in
-    let a = l .before .args in
+    let a = l .before .before .before .args in
     omega (arith, find-nothing (a .s .now) (a .b) (l .loop .i) (search needs))
 
 pub place-of-spec : {M : Type 1} → statement M
@@ -51,6 +55,7 @@ place-of-spec =
     (tie.spec
     Inv-loop
     μ-loop
+    place-before-requires
     loop-holds
     shared-slice-read-if1
     returns

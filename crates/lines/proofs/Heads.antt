@@ -1,0 +1,198 @@
+-- A line by its head: what nine bytes say, and what follows them. Assumes nothing.
+use mathlib.Core.Path.{_≡_, refl, sym, ap, _∙_}
+use mathlib.Core.Bool.{Bool, true, false, cond, _&&_, and-false}
+use mathlib.Core.List.{List, [], _∷_, _++_}
+use Prim.Native.Nat.{ℕ, zero, suc, _+_, _-_, _≤_, _<_}
+use native.Mathlib.Nat.{zero-add}
+use native.Mathlib.Decide.{decLt}
+use native.Mathlib.Omega.{arith}
+use borrow.Author.Tests.{lt-ltb}
+use lib.Dec.{eqb, ltb, lit≤}
+use lib.ListN.{length, getD, take, drop, List·getD-eq-default}
+use lib.Seq.{getD-take, take-add, drop-at, length-take-le}
+use Rattle.digits.specs.Digits.{digitValue}
+use Rattle.lines.specs.Lines.{lineFeed, space, semicolon, find, firstLine, afterSpaces, isEmpty, nothingOrComment, ends, byteAt, fourDigits, numberAt, entryFrom, entryOf, readLine}
+use Rattle.lines.specs.Heads.{headOf, headLength, headAlone, lineFrom}
+use Rattle.lines.specs.declared.Line.{Line}
+use Rattle.lines.specs.declared.Line.the-variants.{Blank, Entry, IllFormed}
+use Rattle.lines.proofs.Places.{to-end, find-le, first-length, spaces-over, not-empty, too-short}
+use Rattle.lines.proofs.Entries.{Entered, entered}
+use Rattle.lines.proofs.Eights.{find-over}
+use Rattle.lines.proofs.Front.{first-in}
+use Rattle.lines.proofs.Theorems.{find-first}
+use Rattle.lines.proofs.Grammar.{number-exactly, same-number}
+
+no-digit : (b v : ℕ) → digitValue b < 16 → digitValue v ≡ 16 → b ≡ v → ⊥
+no-digit b v h z e = omega (arith, h, z, ap digitValue e)
+
+feed-none : digitValue lineFeed ≡ 16
+unfolding digitValue
+feed-none = refl
+
+space-none : digitValue space ≡ 16
+unfolding digitValue
+space-none = refl
+
+nothing-none : digitValue 0 ≡ 16
+unfolding digitValue
+nothing-none = refl
+
+-- no byte b before a place
+not-yet : (b n : ℕ) (t : List ℕ) → n ≤ length t → ((j : ℕ) → j < n → getD t j 0 ≡ b → ⊥) → n ≤ find b t
+not-yet b n t l none =
+    elim (decLt (find b t) n) [ yes h ↦ absurd (none (find b t) h (find-first b t .1 (omega arith))) | no h ↦ omega arith ]
+
+-- a line of nine bytes or more has those that the rest of the listing starts with
+module _ (t : List ℕ) (h : 9 ≤ find lineFeed t) where
+  first-at : (j : ℕ) → j < 9 → getD (firstLine t) j 0 ≡ getD t j 0
+  first-at j l = getD-take (find lineFeed t) t j 0 (omega arith)
+
+  first-drop : drop 9 (firstLine t) ≡ firstLine (drop 9 t)
+  first-drop =
+      let m = find lineFeed (drop 9 t) in
+      ap (λ (n : ℕ). drop 9 (take n t)) (find-over lineFeed 9 t h)
+      ∙ ap (drop 9) (take-add 9 m t)
+      ∙ drop-at (take 9 t) (take m (drop 9 t)) 9 (length-take-le 9 t (omega (arith, find-le lineFeed t)))
+
+  first-entry : entryOf (firstLine t) ≡ entryFrom (numberAt t 0) (byteAt t 4) (numberAt t 5) (ends (firstLine (drop 9 t)))
+  unfolding entryOf
+  first-entry =
+      let a = same-number (firstLine t) t 0 0 (λ k l. first-at (0 + k) (omega arith)) in
+      let w = same-number (firstLine t) t 5 5 (λ k l. first-at (5 + k) (omega arith)) in
+      rw (a, w, first-at 4 (omega arith), first-drop)
+
+-- an entry's head
+module _ (t : List ℕ) (x y : ℕ) (e : Entered (numberAt t 0) (byteAt t 4) (numberAt t 5) true x y) where
+  address-digit : (k : ℕ) → k < 4 → digitValue (getD t (0 + k) 0) < 16
+  address-digit = number-exactly t 0 x .0 (e .address, e .address-word) .0
+
+  word-digit : (k : ℕ) → k < 4 → digitValue (getD t (5 + k) 0) < 16
+  word-digit = number-exactly t 5 y .0 (e .word, e .word-word) .0
+
+  long : 9 ≤ length t
+  long = elim (decLt (length t) 9) [
+    | yes h ↦ absurd (no-digit (getD t 8 0) 0 (word-digit 3 (omega arith)) nothing-none (List·getD-eq-default t 0 (omega arith)))
+    | no h ↦ omega arith
+  ]
+
+  no-feed : (j : ℕ) → j < 9 → getD t j 0 ≡ lineFeed → ⊥
+  no-feed j l f = elim (decLt j 4) [
+    | yes h ↦ no-digit (getD t (0 + j) 0) lineFeed (address-digit j h) feed-none (ap (λ (k : ℕ). getD t k 0) (zero-add j) ∙ f)
+    | no h ↦ elim (decLt j 5) [
+      | yes g ↦ let z : j ≡ 4 = omega arith in omega (arith, f, ap (λ (k : ℕ). getD t k 0) z, e .spaced)
+      | no g ↦ let z : 5 + (j - 5) ≡ j = omega arith in
+          no-digit (getD t (5 + (j - 5)) 0) lineFeed (word-digit (j - 5) (omega arith)) feed-none (ap (λ (k : ℕ). getD t k 0) z ∙ f)
+    ]
+  ]
+
+  past : 9 ≤ find lineFeed t
+  past = not-yet lineFeed 9 t long no-feed
+
+  no-blank : isEmpty (afterSpaces (firstLine t)) ≡ false
+  no-blank =
+      let l : 9 ≤ length (firstLine t) = omega (arith, first-length t, past) in
+      let s = spaces-over (firstLine t) 0 (omega arith)
+      (λ z. no-digit (getD t 0 0) space (address-digit 0 (omega arith)) space-none (sym (first-at t past 0 (omega arith)) ∙ z)) in
+      rw s (not-empty (firstLine t) (λ z. omega (arith, l, z)))
+
+  entry-line : readLine (firstLine t) ≡ lineFrom (Entry x y) (afterSpaces (firstLine (drop 9 t)))
+  unfolding readLine entryFrom
+  entry-line =
+      rw (no-blank, first-entry t past, e .address, e .spaced, e .word, lt-ltb x 65536 (e .address-word), lt-ltb y 65536 (e .word-word))
+      (by (afterSpaces (firstLine (drop 9 t)))) where
+        by : (u : List ℕ) → cond (nothingOrComment u) (Entry x y) IllFormed ≡ lineFrom (Entry x y) u
+        by [] = refl
+        by (b ∷ u) = refl
+
+-- fewer than nine bytes have no head
+pub head-short : (t : List ℕ) → length t < 9 → headOf t ≡ IllFormed
+unfolding headOf entryFrom numberAt fourDigits digitValue
+head-short t h =
+    let e : getD t 8 0 ≡ 0 = List·getD-eq-default t 0 (omega arith) in
+    rw (e, and-false, and-false)
+
+pub head-at-most : (head : Line) → headLength head ≤ 9
+head-at-most Blank = lit≤ tt
+head-at-most (Entry address word) = lit≤ tt
+head-at-most IllFormed = lit≤ tt
+
+-- what follows a head, by its length and first byte
+pub from-end : (head : Line) (t : List ℕ) → length t ≡ 0 → lineFrom head t ≡ headAlone head
+from-end head [] e = refl
+from-end head (b ∷ t) e = absurd (omega (arith, e))
+
+pub from-byte : (head : Line) (t : List ℕ) → (length t ≡ 0 → ⊥) → lineFrom head t ≡ cond (eqb (getD t 0 0) semicolon) head IllFormed
+from-byte head [] n = absurd (n refl)
+from-byte head (b ∷ t) n = refl
+
+-- where there is none, the line is blank or ill-formed
+never : (a b w : ℕ) (v : Bool) → entryFrom a b w true ≡ IllFormed → entryFrom a b w v ≡ IllFormed
+unfolding entryFrom
+never a b w v = by (ltb a 65536) (eqb b space) (ltb w 65536) v where
+  by : (p q r v : Bool) → cond (p && q && r && true) (Entry a w) IllFormed ≡ IllFormed → cond (p && q && r && v) (Entry a w) IllFormed ≡ IllFormed
+  by true true true true e = e
+  by true true true false e = refl
+  by true true false v e = refl
+  by true false r v e = refl
+  by false q r v e = refl
+
+no-entry : (t : List ℕ) → headOf t ≡ IllFormed → entryOf (firstLine t) ≡ IllFormed
+unfolding headOf
+no-entry t e = elim (decLt (length (firstLine t)) 9) [
+  | yes h ↦ too-short (firstLine t) h
+  | no h ↦ first-entry t (omega (arith, first-length t)) ∙ never (numberAt t 0) (byteAt t 4) (numberAt t 5) (ends (firstLine (drop 9 t))) e
+]
+
+other-line : (t : List ℕ) → headOf t ≡ IllFormed → readLine (firstLine t) ≡ lineFrom IllFormed (afterSpaces (firstLine t))
+unfolding readLine
+other-line t e = rw (no-entry t e) (by (afterSpaces (firstLine t))) where
+  same : (v : Bool) → IllFormed ≡ cond v IllFormed IllFormed
+  same true = refl
+  same false = refl
+
+  by : (u : List ℕ) → cond (isEmpty u) Blank IllFormed ≡ lineFrom IllFormed u
+  by [] = refl
+  by (b ∷ u) = same (eqb b semicolon)
+
+never-blank : {A : Type 0} (a b w : ℕ) → entryFrom a b w true ≡ Blank → A
+unfolding entryFrom
+never-blank {A} a b w = by (ltb a 65536 && eqb b space && ltb w 65536 && true) where
+  by : (v : Bool) → cond v (Entry a w) IllFormed ≡ Blank → A
+  by true e = let z : _≡_ {A = ℕ} 0 1 = cc in absurd (omega arith)
+  by false e = let z : _≡_ {A = ℕ} 0 1 = cc in absurd (omega arith)
+
+-- the line, and how many bytes it has
+abbrev Reads : List ℕ → Line → Type 0
+Reads t head =
+    (readLine (firstLine t) ≡ lineFrom head (afterSpaces (firstLine (drop (headLength head) t))))
+    × (length (firstLine t) ≡ headLength head + length (firstLine (drop (headLength head) t)))
+
+pub head-line : (t : List ℕ) → Reads t (headOf t)
+unfolding headOf
+head-line t = by (headOf t) refl where
+  by : (h : Line) → headOf t ≡ h → Reads t h
+  by Blank e = never-blank (numberAt t 0) (byteAt t 4) (numberAt t 5) e
+  by (Entry x y) e =
+      let r = entered (numberAt t 0) (byteAt t 4) (numberAt t 5) true x y e in (
+        entry-line t x y r,
+        omega (arith, first-length t, first-length (drop 9 t), find-over lineFeed 9 t (past t x y r)),
+      )
+  by IllFormed e = (other-line t e, omega arith)
+
+-- a line that is not ill-formed is what its head says
+pub alone-line : (head : Line) (u : List ℕ) → (lineFrom head u ≡ IllFormed → ⊥) → headAlone head ≡ lineFrom head u
+alone-line head [] n = refl
+alone-line head (b ∷ u) n = by (eqb b semicolon) head n where
+  by : (v : Bool) (h : Line) → (cond v h IllFormed ≡ IllFormed → ⊥) → headAlone h ≡ cond v h IllFormed
+  by true Blank n = refl
+  by true (Entry x y) n = refl
+  by true IllFormed n = absurd (n refl)
+  by false h n = absurd (n refl)
+
+-- the same by the part of the rest that follows the head
+module _ (t : List ℕ) (head : Line) (n : ℕ) (u : List ℕ) (e : u ≡ firstLine (take (length t - n) (drop n t))) where
+  pub head-read : head ≡ headOf t → n ≡ headLength head → (readLine (firstLine t) ≡ lineFrom head (afterSpaces u)) × (length (firstLine t) ≡ n + length u)
+  head-read h l = rw (e, to-end t n, l, h) (head-line t)
+
+  pub text-fits : n ≤ length t → n + length u ≤ length t
+  text-fits h = rw (e, to-end t n) (omega (arith, first-in t n))

@@ -1,0 +1,62 @@
+-- `lines::place_before` meets its contract: eight bytes passed are none of them b. Assumes nothing.
+use mathlib.Core.Path.{_≡_, sym, ap, _∙_}
+use Prim.Native.Nat.{_≤_, _+_, _-_}
+use native.Mathlib.Omega.{arith}
+use borrow.Author.Needs.{needs}
+use borrow.Author.Tests.{leb-true, not-false}
+use lib.ListN.{length, drop}
+use lib.Seq.{drop-drop}
+use Rattle.lines.specs.Lines.{find}
+use Rattle.lines.proofs.Eights.{find-over}
+use Rattle.lines.proofs.place_before.Statement.{statement}
+use Rattle.lines.proofs.place_before.Tie as tie
+
+abbrev Inv-loop : tie.InvT-loop
+Inv-loop s b i₀ i = (i ≤ length s) × (find b s ≡ i + find b (drop i s))
+
+abbrev μ-loop : tie.MeasureT-loop
+μ-loop s b i₀ i = length s - i
+
+loop-holds : tie.Need-loop-holds Inv-loop μ-loop
+loop-holds c = search needs
+
+sub-loop : tie.Need-sub-loop Inv-loop μ-loop
+sub-loop c = search needs
+
+none-of-eight-requires : tie.Need-none-of-eight-requires Inv-loop μ-loop
+none-of-eight-requires c κs = search needs
+
+returns : tie.Need-returns Inv-loop μ-loop
+returns c = search needs
+
+add-i : tie.Need-add-i Inv-loop μ-loop
+add-i c = search needs
+
+loop-less : tie.Need-loop-less Inv-loop μ-loop
+loop-less c = search needs
+
+loop-again : tie.Need-loop-again Inv-loop μ-loop
+loop-again c =
+    let l = c .before .before .before in
+    let a = l .before .before .args in
+    let none = sym (c .before .none-of-eight .ensures) ∙ not-false _ (c .if1 .left) in
+    let over = find-over (a .b) 8 (drop (l .loop .i) (a .s .now)) (leb-true 8 _ none) in
+    (search needs, omega (arith, l .loop .inv .1, over, ap (find (a .b)) (drop-drop 8 (l .loop .i) (a .s .now))))
+
+returns-2 : tie.Need-returns-2 Inv-loop μ-loop
+returns-2 c = search needs
+
+pub place-before-spec : {M : Type 1} → statement M
+place-before-spec =
+    tie.close
+    (tie.spec
+    Inv-loop
+    μ-loop
+    loop-holds
+    sub-loop
+    none-of-eight-requires
+    returns
+    add-i
+    loop-less
+    loop-again
+    returns-2)

@@ -1,0 +1,63 @@
+-- `lines::read_line_by` meets its contract. Assumes nothing.
+use mathlib.Core.Path.{sym, _∙_}
+use native.Mathlib.Omega.{arith}
+use borrow.Author.Needs.{needs}
+use Rattle.lines.proofs.Heads.{head-read, text-fits}
+use Rattle.lines.proofs.read_line_by.Statement.{statement}
+use Rattle.lines.proofs.read_line_by.Tie as tie
+
+head-of-requires : tie.Need-head-of-requires
+head-of-requires c κs = search needs
+
+head-length-requires : tie.Need-head-length-requires
+head-length-requires c κs = search needs
+
+sub-first-line : tie.Need-sub-first-line
+sub-first-line c = omega (arith, c .head-length .ensures, c .before .head-of .ensures .0)
+
+part-first-line-start : tie.Need-part-first-line-start
+part-first-line-start c = omega (arith, c .head-length .ensures, c .before .head-of .ensures .0)
+
+part-first-line-end : tie.Need-part-first-line-end
+part-first-line-end c = omega (arith, c .head-length .ensures, c .before .head-of .ensures .0)
+
+first-line-requires : tie.Need-first-line-requires
+first-line-requires c κs = search needs
+
+after-spaces-requires : tie.Need-after-spaces-requires
+after-spaces-requires c κs = search needs
+
+line-from-requires : tie.Need-line-from-requires
+line-from-requires c κs = search needs
+
+add-t12 : tie.Need-add-t12
+add-t12 c =
+    let f = c .before .before .first-line in
+    let n = c .before .before .before .before .head-length in
+    let d = c .before .before .before .before .before in
+    let t = d .before .before .args .rest .now in
+    omega (arith, text-fits t (d .head-of .result) (n .result) (f .result .now) (f .ensures .0) (omega (arith, n .ensures, d .head-of .ensures .0)))
+
+returns : tie.Need-returns
+returns c = λ h.
+    let f = c .before .before .first-line in
+    let n = c .before .before .before .before .head-length in
+    let d = c .before .before .before .before .before in
+    let t = d .before .before .args .rest .now in
+    let r = head-read t (d .head-of .result) (n .result) (f .result .now) (f .ensures .0) (d .head-of .ensures .1 h) (n .ensures) in
+    (rw (c .line-from .ensures, c .before .after-spaces .ensures) (sym (r .0)), sym (r .1))
+
+pub read-line-by-spec : {M : Type 1} → statement M
+read-line-by-spec =
+    tie.close
+    (tie.spec
+    head-of-requires
+    head-length-requires
+    sub-first-line
+    part-first-line-start
+    part-first-line-end
+    first-line-requires
+    after-spaces-requires
+    line-from-requires
+    add-t12
+    returns)
