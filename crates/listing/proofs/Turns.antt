@@ -14,6 +14,7 @@ use Rattle.lines.proofs.Places.{to-end}
 use Rattle.lines.proofs.Front.{front-at, first-in}
 use Rattle.listing.specs.Answers.{faultNumber}
 use Rattle.listing.specs.declared.Fault.{Fault}
+use Rattle.listing.proofs.Faults.{sound-step}
 use Rattle.listing.specs.Listing.{lowestAfter, faultOf, sound, faulty, firstFault, wordsOf, wordsIn, storeLine, storeLines}
 
 pub numbered : (fault : Fault) → faultNumber fault ≡ 0 → ⊥
@@ -65,6 +66,16 @@ module _ {s : List ℕ} {at : ℕ} {x : Line} {n : ℕ} (t : Turn s at x n) wher
       → storeLines (lines (drop at s)) memory ≡ storeLines (lines (drop (at + (n + 1)) s)) (storeLine x memory)
   unfolding storeLines
   stored-line memory = rw (t .splits, t .says)
+
+-- a line of which nothing is wrong is not ill-formed, and nothing is wrong with those after it
+pub sound-here : (s : List ℕ) (at L lowest : ℕ) → at < length s → firstFault L lowest at (lines (drop at s)) ≡ sound
+    → (readLine (firstLine (take (length s - at) (drop at s))) ≡ IllFormed → ⊥)
+    × ((next : ℕ) × (firstFault L next (at + (length (firstLine (drop at s)) + 1)) (lines (drop (at + (length (firstLine (drop at s)) + 1)) s)) ≡ sound))
+sound-here s at L lowest h e =
+    let line = firstLine (drop at s) in
+    let f : firstFault L lowest at (line ∷ lines (drop (at + (length line + 1)) s)) ≡ sound = ap (firstFault L lowest at) (sym (front-at s at h)) ∙ e in
+    let k = sound-step L line (lines (drop (at + (length line + 1)) s)) lowest at f in
+    (λ z. let g : readLine line ≡ IllFormed = rw to-end at z in omega (arith, k .0, ap (faultOf L lowest) g), (lowestAfter (readLine line) lowest, k .1))
 
 -- past the last line
 pub no-fault : (s : List ℕ) (L lowest at : ℕ) → length s ≤ at → firstFault L lowest at (lines (drop at s)) ≡ sound

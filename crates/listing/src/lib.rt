@@ -1,9 +1,10 @@
 // A listing checked, and stored into a lent memory: all lines are checked before a word is written.
 ghost use mathlib.Core.Path.{_≡_};
 ghost use lib.ListN.{length};
+ghost use Rattle.digits.specs.Digits.{Holds};
 ghost use Rattle.lines.specs.Lines.{lines};
 ghost use Rattle.listing.specs.Answers.{verdictNumber, storeAnswer};
-ghost use Rattle.listing.specs.Listing.{lowestAfter, addressFault, faultOf, wordsOf, storeLine, storeLines, listingAnswer, listingMemory};
+ghost use Rattle.listing.specs.Listing.{lowestAfter, addressFault, faultOf, sound, checkOf, wordsOf, storeLine, storeLines, listingAnswer, listingMemory};
 use lines::Line;
 
 // What is wrong with a line.
@@ -70,14 +71,15 @@ fn words_of(line: Line) -> usize
 }
 
 // What a store of the listing answers, with nothing stored yet.
-fn check(listing: &[u8], limit: usize) -> StoreAnswer
+fn check(table: &[u8; 256], listing: &[u8], limit: usize) -> StoreAnswer
+    requires { ⌜ Holds (now table) ⌝ }
     ensures { λ r. ⌜ storeAnswer r ≡ listingAnswer (now (listing .entry)) limit ⌝ }
 {
     let mut at = 0;
     let mut lowest: u32 = 0;
     let mut count = 0;
     while at < listing.len() {
-        let read = lines::read_line(&listing[at..]);
+        let read = lines::read_line_by(table, &listing[at..]);
         let line = read.line;
         let verdict = judge(limit, lowest, line);
         if let Verdict::Failed(fault) = verdict {
@@ -100,12 +102,15 @@ fn store_line(line: Line, memory: &mut [u16])
     }
 }
 
-fn store_lines(listing: &[u8], memory: &mut [u16])
+// The lines are stored with no further look at what is wrong with one.
+fn store_lines(table: &[u8; 256], listing: &[u8], memory: &mut [u16])
+    requires { ⌜ Holds (now table) ⌝ }
+    requires { ⌜ checkOf (now listing) (length (now memory)) ≡ sound ⌝ }
     ensures { λ _. ⌜ now (memory .exit) ≡ storeLines (lines (now (listing .entry))) (now (memory .entry)) ⌝ }
 {
     let mut at = 0;
     while at < listing.len() {
-        let read = lines::read_line(&listing[at..]);
+        let read = lines::read_sound_line_by(table, &listing[at..]);
         let line = read.line;
         store_line(line, memory);
         at += read.length + 1;
@@ -118,9 +123,10 @@ pub fn store(listing: &[u8], memory: &mut [u16]) -> StoreAnswer
     ensures answer { λ r. ⌜ storeAnswer r ≡ listingAnswer (now (listing .entry)) (length (now (memory .entry))) ⌝ }
     ensures memory { λ _. ⌜ now (memory .exit) ≡ listingMemory (now (listing .entry)) (now (memory .entry)) ⌝ }
 {
-    let answer = check(listing, memory.len());
+    let table = digits::table();
+    let answer = check(&table, listing, memory.len());
     match answer {
-        StoreAnswer::Stored(_) => store_lines(listing, memory),
+        StoreAnswer::Stored(_) => store_lines(&table, listing, memory),
         StoreAnswer::Refused(_, _) => {}
     }
     answer

@@ -13,29 +13,29 @@ use Rattle.listing.proofs.check.Statement.{statement}
 use Rattle.listing.proofs.check.Tie as tie
 
 abbrev Inv-loop : tie.InvT-loop
-Inv-loop listing limit at₀ lowest₀ count₀ at lowest count =
+Inv-loop table listing limit at₀ lowest₀ count₀ at lowest count =
     (firstFault limit 0 0 (lines listing) ≡ firstFault limit lowest at (lines (drop at listing)))
     × (wordsIn (lines listing) ≡ count + wordsIn (lines (drop at listing)))
     × (at ≤ length listing + 1)
     × (count ≤ at)
 
 abbrev μ-loop : tie.MeasureT-loop
-μ-loop listing limit at₀ lowest₀ count₀ at lowest count = length listing + 1 - at
+μ-loop table listing limit at₀ lowest₀ count₀ at lowest count = length listing + 1 - at
 
 loop-holds : tie.Need-loop-holds Inv-loop μ-loop
 loop-holds c = (refl, omega arith, omega arith, omega arith)
 
-sub-read-line : tie.Need-sub-read-line Inv-loop μ-loop
-sub-read-line c = search needs
+sub-read-line-by : tie.Need-sub-read-line-by Inv-loop μ-loop
+sub-read-line-by c = search needs
 
-part-read-line-start : tie.Need-part-read-line-start Inv-loop μ-loop
-part-read-line-start c = search needs
+part-read-line-by-start : tie.Need-part-read-line-by-start Inv-loop μ-loop
+part-read-line-by-start c = search needs
 
-part-read-line-end : tie.Need-part-read-line-end Inv-loop μ-loop
-part-read-line-end c = search needs
+part-read-line-by-end : tie.Need-part-read-line-by-end Inv-loop μ-loop
+part-read-line-by-end c = search needs
 
-read-line-requires : tie.Need-read-line-requires Inv-loop μ-loop
-read-line-requires c κs = search needs
+read-line-by-requires : tie.Need-read-line-by-requires Inv-loop μ-loop
+read-line-by-requires c κs = search needs
 
 judge-requires : tie.Need-judge-requires Inv-loop μ-loop
 judge-requires c κs = search needs
@@ -49,7 +49,7 @@ returns c =
     let r = c .before .before .before .before in
     let l = r .before .before .before in
     let s = l .before .before .args in
-    let t = turn (s .listing .now) (l .loop .at) (r .before .before .loop-test .taken) (r .read-line .ensures) in
+    let t = turn (s .listing .now) (l .loop .at) (r .before .before .loop-test .taken) (r .read-line-by .ensures (l .before .before .pre)) in
     let v = c .before .before .before .judge .ensures in
     let f = c .before .verdict .given in
     rw (
@@ -69,14 +69,14 @@ words-of-requires c κs = search needs
 add-count : tie.Need-add-count Inv-loop μ-loop
 add-count c =
     let r = c .before .before .before .before .before in
-    omega (arith, c .words-of .ensures, words-le (r .read-line .result .line), r .before .before .before .loop .inv .3)
+    omega (arith, c .words-of .ensures, words-le (r .read-line-by .result .line), r .before .before .before .loop .inv .3)
 
 add-at : tie.Need-add-at Inv-loop μ-loop
 add-at c =
     let r = c .before .before .before .before .before .before in
     let l = r .before .before .before in
     let s = l .before .before .args in
-    let t = turn (s .listing .now) (l .loop .at) (r .before .before .loop-test .taken) (r .read-line .ensures) in
+    let t = turn (s .listing .now) (l .loop .at) (r .before .before .loop-test .taken) (r .read-line-by .ensures (l .before .before .pre)) in
     omega (arith, t .within)
 
 add-at-2 : tie.Need-add-at-2 Inv-loop μ-loop
@@ -84,7 +84,7 @@ add-at-2 c =
     let r = c .before .before .before .before .before .before in
     let l = r .before .before .before in
     let s = l .before .before .args in
-    let t = turn (s .listing .now) (l .loop .at) (r .before .before .loop-test .taken) (r .read-line .ensures) in
+    let t = turn (s .listing .now) (l .loop .at) (r .before .before .loop-test .taken) (r .read-line-by .ensures (l .before .before .pre)) in
     omega (arith, t .within)
 
 loop-less : tie.Need-loop-less Inv-loop μ-loop
@@ -95,7 +95,7 @@ loop-again c =
     let r = c .before .before .before .before .before .before in
     let l = r .before .before .before in
     let s = l .before .before .args in
-    let t = turn (s .listing .now) (l .loop .at) (r .before .before .loop-test .taken) (r .read-line .ensures) in
+    let t = turn (s .listing .now) (l .loop .at) (r .before .before .loop-test .taken) (r .read-line-by .ensures (l .before .before .pre)) in
     let v = c .before .before .before .before .before .judge .ensures in
     let w = c .before .words-of .ensures in (
       rw (c .before .before .lowest-after .ensures)
@@ -103,7 +103,7 @@ loop-again c =
           ∙ sound-line t (s .limit) (l .loop .lowest) (sym v ∙ ap verdictNumber (c .before .before .before .enum-told .given .1))),
       omega (arith, l .loop .inv .1, w, counted t),
       t .within,
-      omega (arith, w, words-le (r .read-line .result .line), l .loop .inv .3),
+      omega (arith, w, words-le (r .read-line-by .result .line), l .loop .inv .3),
     )
 
 returns-2 : tie.Need-returns-2 Inv-loop μ-loop
@@ -121,10 +121,10 @@ check-spec =
     Inv-loop
     μ-loop
     loop-holds
-    sub-read-line
-    part-read-line-start
-    part-read-line-end
-    read-line-requires
+    sub-read-line-by
+    part-read-line-by-start
+    part-read-line-by-end
+    read-line-by-requires
     judge-requires
     enum-known-verdict
     returns

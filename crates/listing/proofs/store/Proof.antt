@@ -1,10 +1,14 @@
 -- `listing::store` meets its contract: the check decides over the memory too. Assumes nothing.
 use mathlib.Core.Path.{sym, ap, _∙_}
 use borrow.Author.Needs.{needs}
+use lib.ListN.{length}
 use Rattle.listing.specs.Answers.{storeAnswer}
-use Rattle.listing.proofs.Decided.{accepted, refuses}
+use Rattle.listing.proofs.Decided.{passed, accepted, refuses}
 use Rattle.listing.proofs.store.Statement.{statement}
 use Rattle.listing.proofs.store.Tie as tie
+
+table-requires : tie.Need-table-requires
+table-requires c κs = search needs
 
 check-requires : tie.Need-check-requires
 check-requires c κs = search needs
@@ -13,7 +17,11 @@ enum-told : tie.Need-enum-told
 enum-told c = search needs
 
 store-lines-requires : tie.Need-store-lines-requires
-store-lines-requires c κs = search needs
+store-lines-requires c κs =
+    let k = c .before .before .before .before in
+    let a = k .before .before .before .before .before .args in
+    let e = sym (k .check .ensures) ∙ ap storeAnswer (c .before .before .enum-told .given .1) in
+    (k .before .before .table .ensures, passed (a .listing .now) (length (a .memory .now)) _ e)
 
 enum-told-2 : tie.Need-enum-told-2
 enum-told-2 c = search needs
@@ -23,15 +31,15 @@ same-length c = search needs
 
 returns : tie.Need-returns
 returns c =
-    let k = c .before .before .before .before .before .before in
-    let a = k .before .before .before .args in
-    let e = sym (k .check .ensures) ∙ ap storeAnswer (c .before .before .before .before .enum-told .given .1) in
+    let k = c .before .before .before .before .before .before .before in
+    let a = k .before .before .before .before .before .args in
+    let e = sym (k .check .ensures) ∙ ap storeAnswer (c .before .before .before .before .before .enum-told .given .1) in
     (k .check .ensures, c .before .before .store-lines .ensures ∙ sym (accepted (a .listing .now) (a .memory .now) _ e))
 
 returns-2 : tie.Need-returns-2
 returns-2 c =
     let k = c .before .before in
-    let a = k .before .before .before .args in
+    let a = k .before .before .before .before .before .args in
     let e = sym (k .check .ensures) ∙ ap storeAnswer (c .enum-told2 .given .1) in
     (k .check .ensures, sym (refuses (a .listing .now) (a .memory .now) _ _ e))
 
@@ -39,6 +47,7 @@ pub store-spec : {M : Type 1} → statement M
 store-spec =
     tie.close
     (tie.spec
+    table-requires
     check-requires
     enum-told
     store-lines-requires

@@ -1,38 +1,40 @@
 -- `listing::store_lines` meets its contract: storing the rest of the lines into the memory reached is storing all into the first. Assumes nothing.
 use mathlib.Core.Path.{_≡_, refl, sym, _∙_}
-use Prim.Native.Nat.{_≤_, _+_, _-_}
+use Prim.Native.Nat.{ℕ, _≤_, _+_, _-_}
 use native.Mathlib.Omega.{arith}
 use borrow.Author.Needs.{needs}
 use lib.ListN.{length, drop}
 use Rattle.lines.specs.Lines.{lines}
-use Rattle.listing.specs.Listing.{storeLines}
-use Rattle.listing.proofs.Turns.{turn, stored-line, no-store, length-line}
+use Rattle.listing.specs.Listing.{sound, firstFault, checkOf, storeLines}
+use Rattle.listing.proofs.Turns.{turn, sound-here, stored-line, no-store, length-line}
 use Rattle.listing.proofs.store_lines.Statement.{statement}
 use Rattle.listing.proofs.store_lines.Tie as tie
 
 abbrev Inv-loop : tie.InvT-loop
-Inv-loop listing memory₀ at₀ memory at =
+Inv-loop table listing memory₀ at₀ memory at =
     (storeLines (lines listing) memory₀ ≡ storeLines (lines (drop at listing)) memory)
     × (length memory ≡ length memory₀)
     × (at ≤ length listing + 1)
+    × ((lowest : ℕ) × (firstFault (length memory₀) lowest at (lines (drop at listing)) ≡ sound))
 
 abbrev μ-loop : tie.MeasureT-loop
-μ-loop listing memory₀ at₀ memory at = length listing + 1 - at
+μ-loop table listing memory₀ at₀ memory at = length listing + 1 - at
 
 loop-holds : tie.Need-loop-holds Inv-loop μ-loop
-loop-holds c = (refl, refl, omega arith)
+unfolding checkOf
+loop-holds c = (refl, refl, omega arith, (0, c .before .before .pre .1))
 
-sub-read-line : tie.Need-sub-read-line Inv-loop μ-loop
-sub-read-line c = search needs
+sub-read-sound-line-by : tie.Need-sub-read-sound-line-by Inv-loop μ-loop
+sub-read-sound-line-by c = search needs
 
-part-read-line-start : tie.Need-part-read-line-start Inv-loop μ-loop
-part-read-line-start c = search needs
+part-read-sound-line-by-start : tie.Need-part-read-sound-line-by-start Inv-loop μ-loop
+part-read-sound-line-by-start c = search needs
 
-part-read-line-end : tie.Need-part-read-line-end Inv-loop μ-loop
-part-read-line-end c = search needs
+part-read-sound-line-by-end : tie.Need-part-read-sound-line-by-end Inv-loop μ-loop
+part-read-sound-line-by-end c = search needs
 
-read-line-requires : tie.Need-read-line-requires Inv-loop μ-loop
-read-line-requires c κs = search needs
+read-sound-line-by-requires : tie.Need-read-sound-line-by-requires Inv-loop μ-loop
+read-sound-line-by-requires c κs = search needs
 
 store-line-requires : tie.Need-store-line-requires Inv-loop μ-loop
 store-line-requires c κs = search needs
@@ -41,14 +43,22 @@ add-at : tie.Need-add-at Inv-loop μ-loop
 add-at c =
     let r = c .before .before .before .before .before in
     let l = r .before .before .before in
-    let t = turn (l .before .before .before .args .listing .now) (l .loop .at) (r .before .before .loop-test .taken) (r .read-line .ensures) in
+    let a = l .before .before .before in
+    let w = l .loop .inv .3 in
+    let k = sound-here (a .args .listing .now) (l .loop .at) (length (a .args .memory .now)) (w .0) (r .before .before .loop-test .taken) (w .1) in
+    let e = r .read-sound-line-by .ensures in
+    let t = turn (a .args .listing .now) (l .loop .at) (r .before .before .loop-test .taken) (e .0 (a .pre .0) (k .0), e .1 (a .pre .0)) in
     omega (arith, t .within)
 
 add-at-2 : tie.Need-add-at-2 Inv-loop μ-loop
 add-at-2 c =
     let r = c .before .before .before .before .before in
     let l = r .before .before .before in
-    let t = turn (l .before .before .before .args .listing .now) (l .loop .at) (r .before .before .loop-test .taken) (r .read-line .ensures) in
+    let a = l .before .before .before in
+    let w = l .loop .inv .3 in
+    let k = sound-here (a .args .listing .now) (l .loop .at) (length (a .args .memory .now)) (w .0) (r .before .before .loop-test .taken) (w .1) in
+    let e = r .read-sound-line-by .ensures in
+    let t = turn (a .args .listing .now) (l .loop .at) (r .before .before .loop-test .taken) (e .0 (a .pre .0) (k .0), e .1 (a .pre .0)) in
     omega (arith, t .within)
 
 loop-less : tie.Need-loop-less Inv-loop μ-loop
@@ -58,9 +68,13 @@ loop-again : tie.Need-loop-again Inv-loop μ-loop
 loop-again c =
     let r = c .before .before .before .before .before in
     let l = r .before .before .before in
-    let t = turn (l .before .before .before .args .listing .now) (l .loop .at) (r .before .before .loop-test .taken) (r .read-line .ensures) in
+    let a = l .before .before .before in
+    let w = l .loop .inv .3 in
+    let k = sound-here (a .args .listing .now) (l .loop .at) (length (a .args .memory .now)) (w .0) (r .before .before .loop-test .taken) (w .1) in
+    let e = r .read-sound-line-by .ensures in
+    let t = turn (a .args .listing .now) (l .loop .at) (r .before .before .loop-test .taken) (e .0 (a .pre .0) (k .0), e .1 (a .pre .0)) in
     let m = c .before .before .before .store-line .ensures in
-    (rw m (l .loop .inv .0 ∙ stored-line t (l .loop .memory)), rw (m, length-line) (l .loop .inv .1), t .within)
+    (rw m (l .loop .inv .0 ∙ stored-line t (l .loop .memory)), rw (m, length-line) (l .loop .inv .1), t .within, (k .1 .0, rw (t .long) (k .1 .1)))
 
 same-length : tie.Need-same-length Inv-loop μ-loop
 same-length c = c .before .loop .inv .1
@@ -77,10 +91,10 @@ store-lines-spec =
     Inv-loop
     μ-loop
     loop-holds
-    sub-read-line
-    part-read-line-start
-    part-read-line-end
-    read-line-requires
+    sub-read-sound-line-by
+    part-read-sound-line-by-start
+    part-read-sound-line-by-end
+    read-sound-line-by-requires
     store-line-requires
     add-at
     add-at-2
