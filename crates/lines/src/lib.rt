@@ -220,11 +220,11 @@ pub fn read_sound_line_by(table: &[u8; 256], rest: &[u8]) -> Read
 {
     let head = head_of(table, rest);
     let n = head_length(head);
-    let text = first_line(&rest[n..]);
     let line = alone(head);
+    let m = place_of(&rest[n..], LINE_FEED);
     Read {
         line,
-        length: n + text.len(),
+        length: n + m,
     }
 }
 

@@ -1,8 +1,11 @@
 -- `lines::read_sound_line_by` meets its contract. Assumes nothing.
-use mathlib.Core.Path.{sym, _∙_}
+use mathlib.Core.Path.{refl, sym, _∙_}
+use Prim.Native.Nat.{_-_}
 use native.Mathlib.Omega.{arith}
 use borrow.Author.Needs.{needs}
-use Rattle.lines.specs.Lines.{afterSpaces}
+use lib.ListN.{length, take, drop}
+use Rattle.lines.specs.Lines.{firstLine, afterSpaces}
+use Rattle.lines.proofs.Places.{first-length}
 use Rattle.lines.proofs.Heads.{head-read, text-fits, alone-line}
 use Rattle.lines.proofs.read_sound_line_by.Statement.{statement}
 use Rattle.lines.proofs.read_sound_line_by.Tie as tie
@@ -13,41 +16,41 @@ head-of-requires c κs = search needs
 head-length-requires : tie.Need-head-length-requires
 head-length-requires c κs = search needs
 
-sub-first-line : tie.Need-sub-first-line
-sub-first-line c = omega (arith, c .head-length .ensures, c .before .head-of .ensures .0)
-
-part-first-line-start : tie.Need-part-first-line-start
-part-first-line-start c = omega (arith, c .head-length .ensures, c .before .head-of .ensures .0)
-
-part-first-line-end : tie.Need-part-first-line-end
-part-first-line-end c = omega (arith, c .head-length .ensures, c .before .head-of .ensures .0)
-
-first-line-requires : tie.Need-first-line-requires
-first-line-requires c κs = search needs
-
 alone-requires : tie.Need-alone-requires
 alone-requires c κs = search needs
 
-add-t11 : tie.Need-add-t11
-add-t11 c =
-    let f = c .before .first-line in
+sub-place-of : tie.Need-sub-place-of
+sub-place-of c = search needs
+
+part-place-of-start : tie.Need-part-place-of-start
+part-place-of-start c = search needs
+
+part-place-of-end : tie.Need-part-place-of-end
+part-place-of-end c = search needs
+
+place-of-requires : tie.Need-place-of-requires
+place-of-requires c κs = search needs
+
+add-t8 : tie.Need-add-t8
+add-t8 c =
     let n = c .before .before .before .head-length in
     let d = c .before .before .before .before in
     let t = d .before .before .args .rest .now in
-    omega (arith, text-fits t (d .head-of .result) (n .result) (f .result .now) (f .ensures .0) (omega (arith, n .ensures, d .head-of .ensures .0)))
+    let part = take (length t - n .result) (drop (n .result) t) in
+    let f = text-fits t (d .head-of .result) (n .result) (firstLine part) refl (omega (arith, n .ensures, d .head-of .ensures .0)) in
+    omega (arith, f, c .place-of .ensures, first-length part)
 
 returns : tie.Need-returns
 returns c =
-    let f = c .before .first-line in
     let n = c .before .before .before .head-length in
     let d = c .before .before .before .before in
     let t = d .before .before .args .rest .now in
-    let u = f .result .now in
-    let r = head-read t (d .head-of .result) (n .result) u (f .ensures .0) in (
+    let part = take (length t - n .result) (drop (n .result) t) in
+    let r = head-read t (d .head-of .result) (n .result) (firstLine part) refl in (
       λ h s.
           let e = r (d .head-of .ensures .1 h) (n .ensures) .0 in
-          c .alone .ensures ∙ alone-line (d .head-of .result) (afterSpaces u) (λ z. s (e ∙ z)) ∙ sym e,
-      λ h. sym (r (d .head-of .ensures .1 h) (n .ensures) .1),
+          c .before .before .alone .ensures ∙ alone-line (d .head-of .result) (afterSpaces (firstLine part)) (λ z. s (e ∙ z)) ∙ sym e,
+      λ h. omega (arith, r (d .head-of .ensures .1 h) (n .ensures) .1, c .place-of .ensures, first-length part),
     )
 
 pub read-sound-line-by-spec : {M : Type 1} → statement M
@@ -56,10 +59,10 @@ read-sound-line-by-spec =
     (tie.spec
     head-of-requires
     head-length-requires
-    sub-first-line
-    part-first-line-start
-    part-first-line-end
-    first-line-requires
     alone-requires
-    add-t11
+    sub-place-of
+    part-place-of-start
+    part-place-of-end
+    place-of-requires
+    add-t8
     returns)
