@@ -12,7 +12,7 @@ use lib.ListN.{length, getD, take, drop, length-drop, drop-of-length-le, List·g
 use lib.Seq.{drop-cons, take-all, length-take-le}
 use Rattle.digits.specs.Digits.{digitValue}
 use Rattle.lines.specs.declared.Line.the-variants.{IllFormed}
-use Rattle.lines.specs.Lines.{lineFeed, space, semicolon, find, firstLine, afterSpaces, isEmpty, nothingOrComment, fourDigits, numberAt, entryFrom, entryOf}
+use Rattle.lines.specs.Lines.{lineFeed, space, find, firstLine, afterSpaces, isEmpty, fourDigits, numberAt, entryFrom, entryOf}
 
 -- `&s[i..]`
 pub to-end : (s : List ℕ) (i : ℕ) → take (length s - i) (drop i s) ≡ drop i s
@@ -56,19 +56,6 @@ spaces-over s i h e = rw (drop-cons s i 0 h, ne-eqb (getD s i 0) space e)
 pub spaces-nothing : (s : List ℕ) (i : ℕ) → length s ≤ i → afterSpaces (drop i s) ≡ drop i s
 unfolding afterSpaces
 spaces-nothing s i h = rw (drop-of-length-le s h)
-
--- a list by its length
-pub nothing : (t : List ℕ) → length t ≡ 0 → nothingOrComment t ≡ true
-nothing [] e = refl
-nothing (b ∷ t) e = absurd (omega (arith, e))
-
-pub something : (t : List ℕ) → (length t ≡ 0 → ⊥) → nothingOrComment t ≡ eqb (getD t 0 0) semicolon
-something [] n = absurd (n refl)
-something (b ∷ t) n = refl
-
-pub empty : (t : List ℕ) → length t ≡ 0 → isEmpty t ≡ true
-empty [] e = refl
-empty (b ∷ t) e = absurd (omega (arith, e))
 
 pub not-empty : (t : List ℕ) → (length t ≡ 0 → ⊥) → isEmpty t ≡ false
 not-empty [] n = absurd (n refl)
