@@ -384,12 +384,12 @@ impl State {
         let ra = register_of(regs, isa::field_a(word));
         let second = isa::second_register(kind, isa::field_t(word), isa::field_b(word));
         let rb = register_of(regs, second);
-        let effect = done.effect;
-        let flags_after = effect.flags;
-        let stop_after = effect.stop;
+        let changed = done.effect;
+        let flags_after = changed.flags;
+        let stop_after = changed.stop;
         State {
-            pc: effect.pc,
-            sp: effect.sp,
+            pc: changed.pc,
+            sp: changed.sp,
             flags: flags_after,
             ir: word,
             ra: latched_value(stop, ra, self.ra),
@@ -409,9 +409,9 @@ impl State {
         let kind = table::kind_of(word);
         let done = self.execute(kind, word, regs, memory);
         let next = self.after(kind, word, regs, done);
-        let effect = done.effect;
-        let store = effect.store;
-        set_register(regs, isa::field_t(word), effect.rt);
+        let changed = done.effect;
+        let store = changed.store;
+        set_register(regs, isa::field_t(word), changed.rt);
         apply(store, memory);
         next
     }
@@ -662,9 +662,12 @@ impl Core {
         requires { ⌜ (1 ≤ b) × (self .clock .0 + b ≤ 4294967295) ⌝ }
         ensures { λ r. ⌜ reached r (now (memory .exit)) ≡ ahead b (starting self (now (memory .entry))) ⌝ }
     {
-        if self.due == 1 {
+        let due = self.due;
+        if due == 1 {
             if 4 <= b {
-                return self.instructions(b, memory);
+                // A copy of its own: else a single cycle takes some 1.4 times as long, since run's loop then keeps its core in memory.
+                let whole = self;
+                return whole.instructions(b, memory);
             }
         }
         self.one_cycle(memory)
