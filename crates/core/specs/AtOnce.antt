@@ -1,5 +1,5 @@
--- How run goes: whole instructions at once where the budget allows, single cycles elsewhere. Only contracts of private functions cite these;
--- that they come to the cycles of Calls rests on the theorem `OneInstruction`.
+-- How run and step go: whole instructions at once where the budget allows, single cycles elsewhere. Contracts of private functions cite these,
+-- and the theorem `OneInstruction` cites `pastOne`: that it comes to the cycles of Calls is what the theorem says.
 use mathlib.Core.Bool.{Bool, false, cond}
 use mathlib.Core.List.{List}
 use Prim.Native.Nat.{ℕ, zero, suc, _+_, _-_}
@@ -87,16 +87,17 @@ pastOne p =
       finished = p .finished + 1;
     }
 
--- does the next instruction fit, whatever it costs?
+-- is the core going, and does the next instruction fit into what is left, whatever it costs?
 abbrev pub goesOn : Stop → ℕ → Bool
 goesOn stop left = cond (leb 4 left) (isGoing stop) false
 
--- at most n instructions, each where the core is going and 4 cycles of b are left
+-- at most n instructions, each where the core is going and 4 cycles of b are left. With b for n there is no other bound, since each takes 2
+-- cycles or more
 unfoldable pub instructionsOn : ℕ → ℕ → Progress → Progress
 instructionsOn zero b p = p
 instructionsOn (suc n) b p = cond (goesOn (p .core .stop) (b - p .used)) (instructionsOn n b (pastOne p)) p
 
--- a turn of run's loop, with b cycles left
+-- a turn of run's loop with b cycles left, from a p that has used none
 abbrev pub ahead : ℕ → Progress → Progress
 ahead b p = cond (dueOne (p .core)) (cond (leb 4 b) (instructionsOn b b p) (advanced p)) (advanced p)
 

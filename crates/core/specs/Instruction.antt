@@ -45,7 +45,7 @@ memoryAfter M v = applied (effectOf (wordDue M v) M v .store) M
 unfoldable pub costAt : List ℕ → Visible → ℕ
 costAt M v = costOf (kindOf (wordDue M v)) (v .flags)
 
--- RA or RB: cycle 2 latches them but where it stops the core
+-- RA or RB: cycle 2 latches them, but where it stops the core they are as they were
 abbrev pub unlessStopping : Stop → ℕ → ℕ → ℕ
 unlessStopping Going new old = new
 unlessStopping Halted new old = old
@@ -56,7 +56,8 @@ abbrev pub secondOf : ℕ → Core → ℕ
 secondOf w core = register (core .regs) (secondRegister (kindOf w) (fieldT w) (fieldB w))
 
 -- the core after the instruction w that is at PC, from cycle 1 due to cycle 1 due: what an instruction changes, by the table; the clock on
--- by its cost; and the hidden registers as its cycles leave them: IR has w, RA and RB are latched, and RALU takes what cycle 3 gives it
+-- by its cost; and the hidden registers as its cycles leave them: IR has w; RA and RB are latched unless w stops the core; RALU takes what
+-- cycle 3 gives it, and is as it was where there is no cycle 3 (HALT, undefined) or that gives nothing (NOP)
 abbrev pub coreAfterWord : ℕ → List ℕ → Core → Core
 coreAfterWord w M core =
     record {
@@ -78,6 +79,7 @@ coreAfterWord w M core =
 unfoldable pub coreAfter : List ℕ → Core → Core
 coreAfter M core = coreAfterWord (wordDue M (visibleOf core)) M core
 
+-- 'hidden registers become zero'
 abbrev pub withoutHidden : Core → Core
 withoutHidden core =
     record {

@@ -88,8 +88,8 @@ abbrev pub Taken : List (ℕ × Type 0) → Type 0
 Taken numbers = (n : ℕ) → First n numbers → ⊥
 
 -- a run that is taken answers the cycles used, which are its budget, 'fewer if the core stops', and the letter of the core that it hands
--- back, whose clock has moved by what was used; how instructions are counted is said by `Midway` and `Finished` of Theorems (proved as
--- `run-taken`)
+-- back, whose clock has moved by what was used; how instructions are counted is said by `OneInstruction` and `ForeignCore` of Theorems (proved
+-- as `run-taken`)
 abbrev pub RunTaken : Type 0
 RunTaken =
     (core : Core) (memory : List ℕ) (b : ℕ) → Taken (runNumbers b core memory)

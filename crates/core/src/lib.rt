@@ -1,6 +1,6 @@
-// The core of document 01, by value, and its five calls: reset, load, run, step and view. Run goes by cycles of the datapath, step by one
-// instruction at once. No call asks anything of its caller: what does not fit is refused and changes nothing. In a contract `self` is the core
-// as it was handed in, whatever becomes of it.
+// The core of document 01, by value, and its five calls: reset, load, run, step and view. Run goes by cycles of the datapath, and by whole
+// instructions where the budget has room for them; step is one instruction. No call asks anything of its caller: what does not fit is refused
+// and changes nothing. In a contract `self` is the core as it was handed in, whatever becomes of it.
 ghost use mathlib.Core.Path.{_≡_};
 ghost use mathlib.Core.Bool.{cond};
 ghost use Prim.Native.Nat.{_+_, _-_, _≤_, _<_};
@@ -46,7 +46,7 @@ pub struct Core {
     pub clock: Cycles,
 }
 
-// A core after a cycle or an instruction, whether that finished an instruction, and the store that is to be made, if any.
+// A core after a cycle, whether that finished an instruction, and the store that is to be made, if any.
 pub struct Turn {
     pub core: Core,
     pub finished: bool,
@@ -302,6 +302,7 @@ fn apply(store: Store, memory: &mut [u16])
     }
 }
 
+// Is the core going, and is there room for an instruction, whatever it costs? `end` is the clock when the budget is spent.
 fn goes_on(state: State, end: u32) -> bool
     requires { ⌜ state .clock .0 ≤ end ⌝ }
     ensures { λ r. ⌜ r ≡ goesOn (state .stop) (end - state .clock .0) ⌝ }
@@ -335,7 +336,7 @@ fn joined(state: State, regs: [u16; 16]) -> Core
     }
 }
 
-// What RA or RB takes, but where the instruction stops the core.
+// What RA or RB is after cycle 2: the new value, or the old one where the instruction stops the core.
 fn latched_value(stop: Stop, new: u16, old: u16) -> u16
     ensures { λ r. ⌜ r ≡ unlessStopping stop new old ⌝ }
 {
@@ -657,7 +658,7 @@ impl Core {
         }
     }
 
-    // Instructions where they can be had at once, else one cycle.
+    // A turn of run's loop: whole instructions where cycle 1 is due and there is room for one, else one cycle.
     fn advance(self, b: u32, memory: &mut [u16]) -> Advance
         requires { ⌜ (1 ≤ b) × (self .clock .0 + b ≤ 4294967295) ⌝ }
         ensures { λ r. ⌜ reached r (now (memory .exit)) ≡ ahead b (starting self (now (memory .entry))) ⌝ }
@@ -665,7 +666,7 @@ impl Core {
         let due = self.due;
         if due == 1 {
             if 4 <= b {
-                // A copy of its own: else a single cycle takes some 1.4 times as long, since run's loop then keeps its core in memory.
+                // A copy for this call: single cycles take longer where run's own core is lent to it.
                 let whole = self;
                 return whole.instructions(b, memory);
             }

@@ -1,5 +1,5 @@
 -- Document 01, 'Datapath cycles': what the cycles 2, 3 and 4 do, by the instruction in IR. (The fetch of cycle 1 and the latching of
--- cycle 2 are the core's.)
+-- cycle 2 are the core's.) Then an instruction at once, with what its cycles leave in RALU.
 use Prim.Native.Nat.{ℕ}
 use mathlib.Core.List.{List}
 use Rattle.words.specs.Memory.{wordAt}
@@ -37,7 +37,7 @@ stopOf (Jump condition target) = Going
 stopOf (Call target) = Going
 
 -- cycle 3, 'RALU takes ..' and 'Flags change here': w is IR, and RALU and the flags come out. 'NOP changes nothing'; nor does a
--- HALT or undefined word here, which only a core that no call made can have in this cycle
+-- HALT or undefined word here, which only a core that no call made can have in this cycle: RALU is as it was
 abbrev pub calculated : Kind → ℕ → ℕ → ℕ → ℕ → Effect → Outcome
 calculated Undefined w RA RB RALU x = silent RALU (x .flags)
 calculated (Binary op) w RA RB RALU x = binaryResult op RA RB (x .flags)

@@ -132,7 +132,7 @@ fn with_ralu(effect: Effect, ralu: u16) -> Executed
     }
 }
 
-// ADD to NOT: RALU takes the value that Rt takes.
+// o 0 to 8 and SL0 to NOT: RALU takes the value that Rt takes.
 fn arithmetic(effect: Effect, outcome: Outcome) -> Executed
     ensures { λ r. ⌜ r ≡ withRalu (outcome .value) (result outcome effect) ⌝ }
 {

@@ -199,7 +199,8 @@ fn first_line(s: &[u8]) -> &[u8]
     &s[..n]
 }
 
-// The line reader for many lines, lent the digits' table: any table is taken, and the line is read where it holds the digits.
+// The line reader for many lines, lent the digits' table. Any table is taken; the answer is promised where the table holds the digits, and is
+// free where it does not, which nothing uses.
 pub fn read_line_by(table: &[u8; 256], rest: &[u8]) -> Read
     ensures { λ r. ⌜ (Holds (now (table .entry)) → (r .line ≡ readLine (firstLine (now (rest .entry)))) × (r .length ≡ length (firstLine (now (rest .entry))))) ⌝ }
 {
@@ -213,7 +214,8 @@ pub fn read_line_by(table: &[u8; 256], rest: &[u8]) -> Read
     }
 }
 
-// The same for a line that is known not to be ill-formed: what follows its head is not looked at.
+// The same for a line that is known not to be ill-formed: what follows its head is not looked at. Of an ill-formed line the length is
+// promised, and what the line says is free, which nothing uses.
 pub fn read_sound_line_by(table: &[u8; 256], rest: &[u8]) -> Read
     ensures line { λ r. ⌜ (Holds (now (table .entry)) → (readLine (firstLine (now (rest .entry))) ≡ IllFormed → ⊥) → r .line ≡ readLine (firstLine (now (rest .entry)))) ⌝ }
     ensures length { λ r. ⌜ (Holds (now (table .entry)) → r .length ≡ length (firstLine (now (rest .entry)))) ⌝ }
