@@ -5,20 +5,11 @@ use borrow.Author.Needs.{needs}
 use Rattle.arithmetic.proofs.print_line.Statement.{statement}
 use Rattle.arithmetic.proofs.print_line.Tie as tie
 
-array-share-prefix-line : tie.Need-array-share-prefix-line
-array-share-prefix-line c = search needs
-
 slice-aggregate-write-all : tie.Need-slice-aggregate-write-all
 slice-aggregate-write-all c =
     sym (length-take-le (c .before .args .end) (c .before .args .t1) (search needs))
 
-write-all-requires : tie.Need-write-all-requires
-write-all-requires c κs = search needs
-
-returns : tie.Need-returns
-returns c = search needs
-
 pub print-line-spec : {M : Type 1} → statement M
 print-line-spec =
     tie.close
-    (tie.spec array-share-prefix-line slice-aggregate-write-all write-all-requires returns)
+    (tie.spec (λ c. search needs) slice-aggregate-write-all (λ c κs. search needs) (λ c. search needs))

@@ -7,12 +7,6 @@ use Rattle.core.specs.Calls.{loadAnswer}
 use Rattle.core.proofs.load_answer.Statement.{statement}
 use Rattle.core.proofs.load_answer.Tie as tie
 
-enum-known-answer : tie.Need-enum-known-answer
-enum-known-answer c = search needs
-
-enum-known-answer-2 : tie.Need-enum-known-answer-2
-enum-known-answer-2 c = search needs
-
 returns : tie.Need-returns
 returns c = sym (ap (λ (a : StoreAnswer). loadAnswer (storeAnswer a)) (c .before .answer .given .1))
 
@@ -23,7 +17,6 @@ pub load-answer-spec : {M : Type 1} → statement M
 load-answer-spec =
     tie.close
     (tie.spec
-    enum-known-answer
-    enum-known-answer-2
+    (λ c. search needs) (λ c. search needs)
     returns
     returns-2)

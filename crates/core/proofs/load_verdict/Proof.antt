@@ -6,15 +6,9 @@ use Rattle.core.proofs.Replies.{found, passed}
 use Rattle.core.proofs.load_verdict.Statement.{statement}
 use Rattle.core.proofs.load_verdict.Tie as tie
 
-wrong-length-requires : tie.Need-wrong-length-requires
-wrong-length-requires c κs = search needs
-
 returns : tie.Need-returns
 unfolding loadNumber
 returns c = sym (found 1 _ _ (sym (c .before .wrong-length .ensures) ∙ c .if1 .taken))
-
-view-verdict-requires : tie.Need-view-verdict-requires
-view-verdict-requires c κs = search needs
 
 returns-2 : tie.Need-returns-2
 unfolding loadNumber viewNumber
@@ -26,7 +20,7 @@ pub load-verdict-spec : {M : Type 1} → statement M
 load-verdict-spec =
     tie.close
     (tie.spec
-    wrong-length-requires
+    (λ c κs. search needs)
     returns
-    view-verdict-requires
+    (λ c κs. search needs)
     returns-2)

@@ -7,15 +7,6 @@ use Rattle.core.proofs.Replies.{found, passed, none-left}
 use Rattle.core.proofs.run_verdict.Statement.{statement}
 use Rattle.core.proofs.run_verdict.Tie as tie
 
-wrong-length-requires : tie.Need-wrong-length-requires
-wrong-length-requires c κs = search needs
-
-is-going-requires : tie.Need-is-going-requires
-is-going-requires c κs = search needs
-
-clock-full-requires : tie.Need-clock-full-requires
-clock-full-requires c κs = search needs
-
 returns : tie.Need-returns
 unfolding runNumber
 returns c = sym (found 1 _ _ (sym (c .before .before .before .wrong-length .ensures) ∙ c .if1 .taken))
@@ -53,9 +44,7 @@ pub run-verdict-spec : {M : Type 1} → statement M
 run-verdict-spec =
     tie.close
     (tie.spec
-    wrong-length-requires
-    is-going-requires
-    clock-full-requires
+    (λ c κs. search needs) (λ c κs. search needs) (λ c κs. search needs)
     returns
     returns-2
     returns-3

@@ -3,102 +3,6 @@ use borrow.Author.Needs.{needs}
 use Rattle.effects.proofs.write_back.Statement.{statement}
 use Rattle.effects.proofs.write_back.Tie as tie
 
-enum-told : tie.Need-enum-told
-enum-told c = search needs
-
-enum-told-2 : tie.Need-enum-told-2
-enum-told-2 c = search needs
-
-to-rt-requires : tie.Need-to-rt-requires
-to-rt-requires c κs = search needs
-
-enum-told-3 : tie.Need-enum-told-3
-enum-told-3 c = search needs
-
-to-rt-requires-2 : tie.Need-to-rt-requires-2
-to-rt-requires-2 c κs = search needs
-
-enum-told-4 : tie.Need-enum-told-4
-enum-told-4 c = search needs
-
-read-requires : tie.Need-read-requires
-read-requires c κs = search needs
-
-to-rt-requires-3 : tie.Need-to-rt-requires-3
-to-rt-requires-3 c κs = search needs
-
-enum-told-5 : tie.Need-enum-told-5
-enum-told-5 c = search needs
-
-with-store-requires : tie.Need-with-store-requires
-with-store-requires c κs = search needs
-
-enum-told-6 : tie.Need-enum-told-6
-enum-told-6 c = search needs
-
-to-rt-requires-4 : tie.Need-to-rt-requires-4
-to-rt-requires-4 c κs = search needs
-
-enum-told-7 : tie.Need-enum-told-7
-enum-told-7 c = search needs
-
-enum-told-8 : tie.Need-enum-told-8
-enum-told-8 c = search needs
-
-enum-told-9 : tie.Need-enum-told-9
-enum-told-9 c = search needs
-
-to-sp-requires : tie.Need-to-sp-requires
-to-sp-requires c κs = search needs
-
-enum-told-10 : tie.Need-enum-told-10
-enum-told-10 c = search needs
-
-to-sp-requires-2 : tie.Need-to-sp-requires-2
-to-sp-requires-2 c κs = search needs
-
-read-requires-2 : tie.Need-read-requires-2
-read-requires-2 c κs = search needs
-
-to-pc-requires : tie.Need-to-pc-requires
-to-pc-requires c κs = search needs
-
-enum-told-11 : tie.Need-enum-told-11
-enum-told-11 c = search needs
-
-to-sp-requires-3 : tie.Need-to-sp-requires-3
-to-sp-requires-3 c κs = search needs
-
-read-requires-3 : tie.Need-read-requires-3
-read-requires-3 c κs = search needs
-
-to-rt-requires-5 : tie.Need-to-rt-requires-5
-to-rt-requires-5 c κs = search needs
-
-enum-told-12 : tie.Need-enum-told-12
-enum-told-12 c = search needs
-
-push-requires : tie.Need-push-requires
-push-requires c κs = search needs
-
-enum-known-kind : tie.Need-enum-known-kind
-enum-known-kind c = search needs
-
-is-taken-requires : tie.Need-is-taken-requires
-is-taken-requires c κs = search needs
-
-jump-requires : tie.Need-jump-requires
-jump-requires c κs = search needs
-
-enum-told-13 : tie.Need-enum-told-13
-enum-told-13 c = search needs
-
-push-requires-2 : tie.Need-push-requires-2
-push-requires-2 c κs = search needs
-
-to-pc-requires-2 : tie.Need-to-pc-requires-2
-to-pc-requires-2 c κs = search needs
-
 returns : tie.Need-returns
 returns c = rw (c .enum-told .given .1)
 
@@ -145,38 +49,13 @@ pub write-back-spec : {M : Type 1} → statement M
 write-back-spec =
     tie.close
     (tie.spec
-    enum-told
-    enum-told-2
-    to-rt-requires
-    enum-told-3
-    to-rt-requires-2
-    enum-told-4
-    read-requires
-    to-rt-requires-3
-    enum-told-5
-    with-store-requires
-    enum-told-6
-    to-rt-requires-4
-    enum-told-7
-    enum-told-8
-    enum-told-9
-    to-sp-requires
-    enum-told-10
-    to-sp-requires-2
-    read-requires-2
-    to-pc-requires
-    enum-told-11
-    to-sp-requires-3
-    read-requires-3
-    to-rt-requires-5
-    enum-told-12
-    push-requires
-    enum-known-kind
-    is-taken-requires
-    jump-requires
-    enum-told-13
-    push-requires-2
-    to-pc-requires-2
+    (λ c. search needs) (λ c. search needs) (λ c κs. search needs) (λ c. search needs) (λ c κs. search needs)
+    (λ c. search needs) (λ c κs. search needs) (λ c κs. search needs) (λ c. search needs) (λ c κs. search needs)
+    (λ c. search needs) (λ c κs. search needs) (λ c. search needs) (λ c. search needs) (λ c. search needs)
+    (λ c κs. search needs) (λ c. search needs) (λ c κs. search needs) (λ c κs. search needs) (λ c κs. search needs)
+    (λ c. search needs) (λ c κs. search needs) (λ c κs. search needs) (λ c κs. search needs) (λ c. search needs)
+    (λ c κs. search needs) (λ c. search needs) (λ c κs. search needs) (λ c κs. search needs) (λ c. search needs)
+    (λ c κs. search needs) (λ c κs. search needs)
     returns
     returns-2
     returns-3

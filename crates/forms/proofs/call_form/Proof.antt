@@ -5,15 +5,6 @@ use Rattle.forms.proofs.Signed.{same}
 use Rattle.forms.proofs.call_form.Statement.{statement}
 use Rattle.forms.proofs.call_form.Tie as tie
 
-enum-told : tie.Need-enum-told
-enum-told c = search needs
-
-enum-told-2 : tie.Need-enum-told-2
-enum-told-2 c = search needs
-
-enum-told-3 : tie.Need-enum-told-3
-enum-told-3 c = search needs
-
 returns : tie.Need-returns
 returns c = rw (c .enum-told .given .1)
 
@@ -24,4 +15,4 @@ returns-3 : tie.Need-returns-3
 returns-3 c = rw (same (c .before .before .before .args .x .5) (omega (arith, c .struct-told .given)), c .before .enum-told3 .given .1)
 
 pub call-form-spec : {M : Type 1} → statement M
-call-form-spec = tie.close (tie.spec enum-told enum-told-2 enum-told-3 returns returns-2 returns-3)
+call-form-spec = tie.close (tie.spec (λ c. search needs) (λ c. search needs) (λ c. search needs) returns returns-2 returns-3)

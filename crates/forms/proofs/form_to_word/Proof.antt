@@ -6,15 +6,9 @@ use Rattle.forms.specs.Writing.{writtenAt, formToWord}
 use Rattle.forms.proofs.form_to_word.Statement.{statement}
 use Rattle.forms.proofs.form_to_word.Tie as tie
 
-parts-of-requires : tie.Need-parts-of-requires
-parts-of-requires c κs = search needs
-
-write-requires : tie.Need-write-requires
-write-requires c κs = search needs
-
 returns : tie.Need-returns
 unfolding formToWord
 returns c = c .write .ensures ∙ ap (λ (p : Parts). writtenAt (p .0) (p .1)) (c .before .before .parts-of .ensures)
 
 pub form-to-word-spec : {M : Type 1} → statement M
-form-to-word-spec = tie.close (tie.spec parts-of-requires write-requires returns)
+form-to-word-spec = tie.close (tie.spec (λ c κs. search needs) (λ c κs. search needs) returns)

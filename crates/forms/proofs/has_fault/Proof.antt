@@ -26,15 +26,9 @@ returns-4 : tie.Need-returns-4
 unfolding fault
 returns-4 c = rw (le-ltb 15 _ (c .before .before .before .before .before .before .if1 .left), le-ltb 15 _ (c .before .before .before .before .if2 .left), le-ltb 15 _ (c .before .before .if3 .left), lt-ltb 255 _ (c .if4 .taken))
 
-is-outside-requires : tie.Need-is-outside-requires
-is-outside-requires c κs = search needs
-
 returns-5 : tie.Need-returns-5
 unfolding fault
 returns-5 c = let e : outside (negℤ (pos 512)) (pos 511) (c .before .before .before .before .before .before .before .before .before .before .before .args .x .4) ≡ true = ap (outside (negℤ (pos 512)) (pos 511)) (sym (same (c .before .before .before .before .before .before .before .before .before .before .before .args .x .4) (omega (arith, c .before .before .struct-told .given)))) ∙ sym (c .before .is-outside .ensures) ∙ c .if5 .taken in rw (le-ltb 15 _ (c .before .before .before .before .before .before .before .before .before .if1 .left), le-ltb 15 _ (c .before .before .before .before .before .before .before .if2 .left), le-ltb 15 _ (c .before .before .before .before .before .if3 .left), le-ltb 255 _ (c .before .before .before .if4 .left), e)
-
-is-outside-requires-2 : tie.Need-is-outside-requires-2
-is-outside-requires-2 c κs = search needs
 
 returns-6 : tie.Need-returns-6
 unfolding fault
@@ -48,7 +42,7 @@ has-fault-spec =
     returns-2
     returns-3
     returns-4
-    is-outside-requires
+    (λ c κs. search needs)
     returns-5
-    is-outside-requires-2
+    (λ c κs. search needs)
     returns-6)

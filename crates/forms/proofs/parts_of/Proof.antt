@@ -5,75 +5,6 @@ use Rattle.forms.proofs.Signed.{same}
 use Rattle.forms.proofs.parts_of.Statement.{statement}
 use Rattle.forms.proofs.parts_of.Tie as tie
 
-enum-known-form : tie.Need-enum-known-form
-enum-known-form c = search needs
-
-binary-entry-requires : tie.Need-binary-entry-requires
-binary-entry-requires c κs = search needs
-
-enum-known-form-2 : tie.Need-enum-known-form-2
-enum-known-form-2 c = search needs
-
-constant-entry-requires : tie.Need-constant-entry-requires
-constant-entry-requires c κs = search needs
-
-enum-known-form-3 : tie.Need-enum-known-form-3
-enum-known-form-3 c = search needs
-
-enum-known-form-4 : tie.Need-enum-known-form-4
-enum-known-form-4 c = search needs
-
-enum-known-form-5 : tie.Need-enum-known-form-5
-enum-known-form-5 c = search needs
-
-unary-entry-requires : tie.Need-unary-entry-requires
-unary-entry-requires c κs = search needs
-
-enum-told : tie.Need-enum-told
-enum-told c = search needs
-
-enum-told-2 : tie.Need-enum-told-2
-enum-told-2 c = search needs
-
-enum-known-form-6 : tie.Need-enum-known-form-6
-enum-known-form-6 c = search needs
-
-enum-told-3 : tie.Need-enum-told-3
-enum-told-3 c = search needs
-
-enum-known-form-7 : tie.Need-enum-known-form-7
-enum-known-form-7 c = search needs
-
-enum-known-form-8 : tie.Need-enum-known-form-8
-enum-known-form-8 c = search needs
-
-enum-known-form-9 : tie.Need-enum-known-form-9
-enum-known-form-9 c = search needs
-
-relative-entry-requires : tie.Need-relative-entry-requires
-relative-entry-requires c κs = search needs
-
-enum-known-form-10 : tie.Need-enum-known-form-10
-enum-known-form-10 c = search needs
-
-absolute-entry-requires : tie.Need-absolute-entry-requires
-absolute-entry-requires c κs = search needs
-
-enum-known-form-11 : tie.Need-enum-known-form-11
-enum-known-form-11 c = search needs
-
-enum-known-form-12 : tie.Need-enum-known-form-12
-enum-known-form-12 c = search needs
-
-enum-known-form-13 : tie.Need-enum-known-form-13
-enum-known-form-13 c = search needs
-
-displaced-entry-requires : tie.Need-displaced-entry-requires
-displaced-entry-requires c κs = search needs
-
-enum-known-form-14 : tie.Need-enum-known-form-14
-enum-known-form-14 c = search needs
-
 returns : tie.Need-returns
 returns c = rw (c .before .before .form .given .1, ← c .binary-entry .ensures)
 
@@ -129,29 +60,11 @@ pub parts-of-spec : {M : Type 1} → statement M
 parts-of-spec =
     tie.close
     (tie.spec
-    enum-known-form
-    binary-entry-requires
-    enum-known-form-2
-    constant-entry-requires
-    enum-known-form-3
-    enum-known-form-4
-    enum-known-form-5
-    unary-entry-requires
-    enum-told
-    enum-told-2
-    enum-known-form-6
-    enum-told-3
-    enum-known-form-7
-    enum-known-form-8
-    enum-known-form-9
-    relative-entry-requires
-    enum-known-form-10
-    absolute-entry-requires
-    enum-known-form-11
-    enum-known-form-12
-    enum-known-form-13
-    displaced-entry-requires
-    enum-known-form-14
+    (λ c. search needs) (λ c κs. search needs) (λ c. search needs) (λ c κs. search needs) (λ c. search needs)
+    (λ c. search needs) (λ c. search needs) (λ c κs. search needs) (λ c. search needs) (λ c. search needs)
+    (λ c. search needs) (λ c. search needs) (λ c. search needs) (λ c. search needs) (λ c. search needs)
+    (λ c κs. search needs) (λ c. search needs) (λ c κs. search needs) (λ c. search needs) (λ c. search needs)
+    (λ c. search needs) (λ c κs. search needs) (λ c. search needs)
     returns
     returns-2
     returns-3

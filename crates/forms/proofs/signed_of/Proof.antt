@@ -8,20 +8,8 @@ use borrow.Author.Needs.{needs}
 use Rattle.forms.proofs.signed_of.Statement.{statement}
 use Rattle.forms.proofs.signed_of.Tie as tie
 
-cast-result : tie.Need-cast-result
-cast-result c = search needs
-
-sub-result : tie.Need-sub-result
-sub-result c = search needs
-
-cast-result-2 : tie.Need-cast-result-2
-cast-result-2 c = search needs
-
-returns : tie.Need-returns
-returns c = search needs
-
 returns-2 : tie.Need-returns-2
 returns-2 c = ap (toZ w16) {x = 65535 - (65535 - c .before .args .word)} {y = c .before .args .word} (omega arith)
 
 pub signed-of-spec : {M : Type 1} → statement M
-signed-of-spec = tie.close (tie.spec cast-result sub-result cast-result-2 returns returns-2)
+signed-of-spec = tie.close (tie.spec (λ c. search needs) (λ c. search needs) (λ c. search needs) (λ c. search needs) returns-2)

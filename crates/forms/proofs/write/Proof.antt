@@ -7,21 +7,9 @@ use Rattle.forms.specs.Writing.{writtenAt}
 use Rattle.forms.proofs.write.Statement.{statement}
 use Rattle.forms.proofs.write.Tie as tie
 
-has-fault-requires : tie.Need-has-fault-requires
-has-fault-requires c κs = search needs
-
 returns : tie.Need-returns
 unfolding writtenAt
 returns c = rw (← c .before .has-fault .ensures, c .if1 .taken)
-
-word-of-requires : tie.Need-word-of-requires
-word-of-requires c κs = search needs
-
-placed-of-requires : tie.Need-placed-of-requires
-placed-of-requires c κs = search needs
-
-add-requires : tie.Need-add-requires
-add-requires c κs = search needs
 
 returns-2 : tie.Need-returns-2
 unfolding writtenAt
@@ -31,9 +19,7 @@ pub write-spec : {M : Type 1} → statement M
 write-spec =
     tie.close
     (tie.spec
-    has-fault-requires
+    (λ c κs. search needs)
     returns
-    word-of-requires
-    placed-of-requires
-    add-requires
+    (λ c κs. search needs) (λ c κs. search needs) (λ c κs. search needs)
     returns-2)

@@ -3,14 +3,8 @@ use borrow.Author.Needs.{needs}
 use Rattle.isa.proofs.call_target.Statement.{statement}
 use Rattle.isa.proofs.call_target.Tie as tie
 
-field-d12-requires : tie.Need-field-d12-requires
-field-d12-requires c κs = search needs
-
-address-of-requires : tie.Need-address-of-requires
-address-of-requires c κs = search needs
-
 returns : tie.Need-returns
 returns c = rw (c .before .field-d12 .ensures) at (c .address-of .ensures)
 
 pub call-target-spec : {M : Type 1} → statement M
-call-target-spec = tie.close (tie.spec field-d12-requires address-of-requires returns)
+call-target-spec = tie.close (tie.spec (λ c κs. search needs) (λ c κs. search needs) returns)

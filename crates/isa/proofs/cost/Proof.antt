@@ -5,15 +5,9 @@ use Rattle.isa.specs.Cost.{countOf, costOf}
 use Rattle.isa.proofs.cost.Statement.{statement}
 use Rattle.isa.proofs.cost.Tie as tie
 
-class-of-requires : tie.Need-class-of-requires
-class-of-requires c κs = search needs
-
-count-of-requires : tie.Need-count-of-requires
-count-of-requires c κs = search needs
-
 returns : tie.Need-returns
 unfolding costOf
 returns c = c .count-of .ensures ∙ ap countOf (c .before .class-of .ensures)
 
 pub cost-spec : {M : Type 1} → statement M
-cost-spec = tie.close (tie.spec class-of-requires count-of-requires returns)
+cost-spec = tie.close (tie.spec (λ c κs. search needs) (λ c κs. search needs) returns)

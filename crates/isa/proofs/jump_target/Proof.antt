@@ -3,14 +3,8 @@ use borrow.Author.Needs.{needs}
 use Rattle.isa.proofs.jump_target.Statement.{statement}
 use Rattle.isa.proofs.jump_target.Tie as tie
 
-field-d10-requires : tie.Need-field-d10-requires
-field-d10-requires c κs = search needs
-
-address-of-requires : tie.Need-address-of-requires
-address-of-requires c κs = search needs
-
 returns : tie.Need-returns
 returns c = rw (c .before .field-d10 .ensures) at (c .address-of .ensures)
 
 pub jump-target-spec : {M : Type 1} → statement M
-jump-target-spec = tie.close (tie.spec field-d10-requires address-of-requires returns)
+jump-target-spec = tie.close (tie.spec (λ c κs. search needs) (λ c κs. search needs) returns)

@@ -4,12 +4,9 @@ use Rattle.layout.specs.Layout.{answerNumbers}
 use Rattle.layout.proofs.done_numbers.Statement.{statement}
 use Rattle.layout.proofs.done_numbers.Tie as tie
 
-four-requires : tie.Need-four-requires
-four-requires c κs = search needs
-
 returns : tie.Need-returns
 unfolding answerNumbers
 returns c = cc
 
 pub done-numbers-spec : {M : Type 1} → statement M
-done-numbers-spec = tie.close (tie.spec four-requires returns)
+done-numbers-spec = tie.close (tie.spec (λ c κs. search needs) returns)

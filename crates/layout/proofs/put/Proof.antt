@@ -19,27 +19,6 @@ abbrev μ-loop : tie.MeasureT-loop
 returns : tie.Need-returns Inv-loop μ-loop
 returns c = sym (too-long (c .before .args .t2) (c .before .args .answers .now) (search needs))
 
-loop-holds : tie.Need-loop-holds Inv-loop μ-loop
-loop-holds c = search needs
-
-mul-answers : tie.Need-mul-answers Inv-loop μ-loop
-mul-answers c = search needs
-
-array-read-answers : tie.Need-array-read-answers Inv-loop μ-loop
-array-read-answers c = search needs
-
-mul-answers-2 : tie.Need-mul-answers-2 Inv-loop μ-loop
-mul-answers-2 c = search needs
-
-slice-write-answers : tie.Need-slice-write-answers Inv-loop μ-loop
-slice-write-answers c = search needs
-
-add-i : tie.Need-add-i Inv-loop μ-loop
-add-i c = search needs
-
-loop-less : tie.Need-loop-less Inv-loop μ-loop
-loop-less c = search needs
-
 loop-again : tie.Need-loop-again Inv-loop μ-loop
 loop-again c =
     let l = c .before .loop in
@@ -47,9 +26,6 @@ loop-again c =
     let next = ap (λ (r : List ℕ). set r (l .i) (getD (a .t2) (l .i) 0)) (l .inv .2)
     ∙ one-more (a .t2) (a .answers .now) (l .i) (search needs) (search needs) in
     (search needs, l .inv .1, next, length-set (l .answers) (l .i) _ ∙ l .inv .3)
-
-same-length : tie.Need-same-length Inv-loop μ-loop
-same-length c = search needs
 
 returns-2 : tie.Need-returns-2 Inv-loop μ-loop
 returns-2 c =
@@ -64,13 +40,8 @@ put-spec =
     Inv-loop
     μ-loop
     returns
-    loop-holds
-    mul-answers
-    array-read-answers
-    mul-answers-2
-    slice-write-answers
-    add-i
-    loop-less
+    (λ c. search needs) (λ c. search needs) (λ c. search needs) (λ c. search needs) (λ c. search needs) (λ c. search needs)
+    (λ c. search needs)
     loop-again
-    same-length
+    (λ c. search needs)
     returns-2)

@@ -4,14 +4,8 @@ use Rattle.layout.proofs.Replies.{as-numbers}
 use Rattle.layout.proofs.reset.Statement.{statement}
 use Rattle.layout.proofs.reset.Tie as tie
 
-reset-requires : tie.Need-reset-requires
-reset-requires c κs = search needs
-
-done-numbers-requires : tie.Need-done-numbers-requires
-done-numbers-requires c κs = search needs
-
 returns : tie.Need-returns
 returns c = λ memory. as-numbers (c .done-numbers .ensures) (λ j. c .before .reset .ensures j memory)
 
 pub reset-spec : {M : Type 1} → statement M
-reset-spec = tie.close (tie.spec reset-requires done-numbers-requires returns)
+reset-spec = tie.close (tie.spec (λ c κs. search needs) (λ c κs. search needs) returns)

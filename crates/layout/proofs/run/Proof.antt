@@ -4,17 +4,8 @@ use Rattle.layout.proofs.Replies.{as-numbers}
 use Rattle.layout.proofs.run.Statement.{statement}
 use Rattle.layout.proofs.run.Tie as tie
 
-run-requires : tie.Need-run-requires
-run-requires c κs = search needs
-
-run-numbers-requires : tie.Need-run-numbers-requires
-run-numbers-requires c κs = search needs
-
-same-length : tie.Need-same-length
-same-length c = search needs
-
 returns : tie.Need-returns
 returns c = as-numbers (c .run-numbers .ensures) (c .before .before .before .before .run .ensures)
 
 pub run-spec : {M : Type 1} → statement M
-run-spec = tie.close (tie.spec run-requires run-numbers-requires same-length returns)
+run-spec = tie.close (tie.spec (λ c κs. search needs) (λ c κs. search needs) (λ c. search needs) returns)

@@ -9,30 +9,6 @@ use Rattle.layout.specs.Layout.{padded, answerNumbers}
 use Rattle.layout.proofs.run_numbers.Statement.{statement}
 use Rattle.layout.proofs.run_numbers.Tie as tie
 
-enum-known-answer : tie.Need-enum-known-answer
-enum-known-answer c = search needs
-
-cast-four : tie.Need-cast-four
-cast-four c = search needs
-
-cast-four-2 : tie.Need-cast-four-2
-cast-four-2 c = search needs
-
-letter-requires : tie.Need-letter-requires
-letter-requires c κs = search needs
-
-cast-four-3 : tie.Need-cast-four-3
-cast-four-3 c = search needs
-
-four-requires : tie.Need-four-requires
-four-requires c κs = search needs
-
-enum-known-answer-2 : tie.Need-enum-known-answer-2
-enum-known-answer-2 c = search needs
-
-refused-numbers-requires : tie.Need-refused-numbers-requires
-refused-numbers-requires c κs = search needs
-
 returns : tie.Need-returns
 unfolding answerNumbers
 returns c =
@@ -49,13 +25,7 @@ pub run-numbers-spec : {M : Type 1} → statement M
 run-numbers-spec =
     tie.close
     (tie.spec
-    enum-known-answer
-    cast-four
-    cast-four-2
-    letter-requires
-    cast-four-3
-    four-requires
-    enum-known-answer-2
-    refused-numbers-requires
+    (λ c. search needs) (λ c. search needs) (λ c. search needs) (λ c κs. search needs) (λ c. search needs)
+    (λ c κs. search needs) (λ c. search needs) (λ c κs. search needs)
     returns
     returns-2)

@@ -4,14 +4,8 @@ use Rattle.layout.proofs.Replies.{as-numbers}
 use Rattle.layout.proofs.view.Statement.{statement}
 use Rattle.layout.proofs.view.Tie as tie
 
-view-requires : tie.Need-view-requires
-view-requires c κs = search needs
-
-view-numbers-requires : tie.Need-view-numbers-requires
-view-numbers-requires c κs = search needs
-
 returns : tie.Need-returns
 returns c = λ memory. as-numbers (c .view-numbers .ensures) (λ j. c .before .before .before .view .ensures .0 j memory)
 
 pub view-spec : {M : Type 1} → statement M
-view-spec = tie.close (tie.spec view-requires view-numbers-requires returns)
+view-spec = tie.close (tie.spec (λ c κs. search needs) (λ c κs. search needs) returns)

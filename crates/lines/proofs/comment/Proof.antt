@@ -7,20 +7,8 @@ use Rattle.lines.proofs.Places.{find-le}
 use Rattle.lines.proofs.comment.Statement.{statement}
 use Rattle.lines.proofs.comment.Tie as tie
 
-part-from-requires : tie.Need-part-from-requires
-part-from-requires c κs = search needs
-
-first-line-requires : tie.Need-first-line-requires
-first-line-requires c κs = search needs
-
-place-of-requires : tie.Need-place-of-requires
-place-of-requires c κs = search needs
-
 add-part-from : tie.Need-add-part-from
 add-part-from c = omega (arith, c .place-of .ensures, find-le 59 (c .before .first-line .result .now))
-
-part-from-requires-2 : tie.Need-part-from-requires-2
-part-from-requires-2 c κs = search needs
 
 returns : tie.Need-returns
 returns c =
@@ -36,9 +24,7 @@ pub comment-spec : {M : Type 1} → statement M
 comment-spec =
     tie.close
     (tie.spec
-    part-from-requires
-    first-line-requires
-    place-of-requires
+    (λ c κs. search needs) (λ c κs. search needs) (λ c κs. search needs)
     add-part-from
-    part-from-requires-2
+    (λ c κs. search needs)
     returns)

@@ -4,12 +4,9 @@ use Rattle.digits.specs.Digits.{Holds}
 use Rattle.lines.proofs.digit.Statement.{statement}
 use Rattle.lines.proofs.digit.Tie as tie
 
-element-copy-out-result : tie.Need-element-copy-out-result
-element-copy-out-result c = search needs
-
 returns : tie.Need-returns
 unfolding Holds
 returns c = λ h. h (c .before .args .b) (search needs)
 
 pub digit-spec : {M : Type 1} → statement M
-digit-spec = tie.close (tie.spec element-copy-out-result returns)
+digit-spec = tie.close (tie.spec (λ c. search needs) returns)

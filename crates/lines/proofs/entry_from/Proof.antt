@@ -17,15 +17,9 @@ returns-3 : tie.Need-returns-3
 unfolding entryFrom
 returns-3 c = rw (lt-ltb _ 65536 (c .before .before .if1 .left), eq-eqb _ space (c .before .if2 .left), le-ltb _ 65536 (c .if3 .taken))
 
-cast-t5 : tie.Need-cast-t5
-cast-t5 c = search needs
-
-cast-t6 : tie.Need-cast-t6
-cast-t6 c = search needs
-
 returns-4 : tie.Need-returns-4
 unfolding entryFrom
 returns-4 c = rw (lt-ltb _ 65536 (c .before .before .if1 .left), eq-eqb _ space (c .before .if2 .left), lt-ltb _ 65536 (c .if3 .left))
 
 pub entry-from-spec : {M : Type 1} → statement M
-entry-from-spec = tie.close (tie.spec returns returns-2 returns-3 cast-t5 cast-t6 returns-4)
+entry-from-spec = tie.close (tie.spec returns returns-2 returns-3 (λ c. search needs) (λ c. search needs) returns-4)

@@ -5,9 +5,6 @@ use Rattle.lines.proofs.Places.{before-length}
 use Rattle.lines.proofs.first_line.Statement.{statement}
 use Rattle.lines.proofs.first_line.Tie as tie
 
-place-of-requires : tie.Need-place-of-requires
-place-of-requires c κs = search needs
-
 slice-aggregate-result : tie.Need-slice-aggregate-result
 slice-aggregate-result c = rw (c .before .place-of .ensures, before-length)
 
@@ -15,4 +12,4 @@ returns : tie.Need-returns
 returns c = (rw (c .before .place-of .ensures), refl)
 
 pub first-line-spec : {M : Type 1} → statement M
-first-line-spec = tie.close (tie.spec place-of-requires slice-aggregate-result returns)
+first-line-spec = tie.close (tie.spec (λ c κs. search needs) slice-aggregate-result returns)

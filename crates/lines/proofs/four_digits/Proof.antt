@@ -23,24 +23,6 @@ returns-4 c =
     let d = c .before .before .before in
     rw (lt-ltb _ 16 (d .if1 .left), lt-ltb _ 16 (c .before .before .if2 .left), lt-ltb _ 16 (c .before .if3 .left), le-ltb _ 16 (c .if4 .taken))
 
-mul-result : tie.Need-mul-result
-mul-result c = search needs
-
-mul-result-2 : tie.Need-mul-result-2
-mul-result-2 c = search needs
-
-add-result : tie.Need-add-result
-add-result c = search needs
-
-mul-result-3 : tie.Need-mul-result-3
-mul-result-3 c = search needs
-
-add-result-2 : tie.Need-add-result-2
-add-result-2 c = search needs
-
-add-result-3 : tie.Need-add-result-3
-add-result-3 c = search needs
-
 returns-5 : tie.Need-returns-5
 unfolding fourDigits
 returns-5 c =
@@ -55,10 +37,5 @@ four-digits-spec =
     returns-2
     returns-3
     returns-4
-    mul-result
-    mul-result-2
-    add-result
-    mul-result-3
-    add-result-2
-    add-result-3
+    (λ c. search needs) (λ c. search needs) (λ c. search needs) (λ c. search needs) (λ c. search needs) (λ c. search needs)
     returns-5)

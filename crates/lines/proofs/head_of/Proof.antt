@@ -10,18 +10,6 @@ use Rattle.lines.proofs.head_of.Tie as tie
 returns : tie.Need-returns
 returns c = (omega arith, λ h. sym (head-short (c .before .before .args .rest .now) (c .if1 .taken)))
 
-number-requires : tie.Need-number-requires
-number-requires c κs = search needs
-
-number-requires-2 : tie.Need-number-requires-2
-number-requires-2 c κs = search needs
-
-shared-slice-read-entry-from : tie.Need-shared-slice-read-entry-from
-shared-slice-read-entry-from c = search needs
-
-entry-from-requires : tie.Need-entry-from-requires
-entry-from-requires c κs = search needs
-
 returns-2 : tie.Need-returns-2
 unfolding headOf
 returns-2 c = (
@@ -34,8 +22,5 @@ head-of-spec =
     tie.close
     (tie.spec
     returns
-    number-requires
-    number-requires-2
-    shared-slice-read-entry-from
-    entry-from-requires
+    (λ c κs. search needs) (λ c κs. search needs) (λ c. search needs) (λ c κs. search needs)
     returns-2)

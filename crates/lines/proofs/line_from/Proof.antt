@@ -7,15 +7,9 @@ use Rattle.lines.proofs.Heads.{from-end, from-byte}
 use Rattle.lines.proofs.line_from.Statement.{statement}
 use Rattle.lines.proofs.line_from.Tie as tie
 
-alone-requires : tie.Need-alone-requires
-alone-requires c κs = search needs
-
 returns : tie.Need-returns
 returns c =
     let a = c .before .before .before .args in c .alone .ensures ∙ sym (from-end (a .head) (a .t .now) (c .before .if1 .taken))
-
-shared-slice-read-if2 : tie.Need-shared-slice-read-if2
-shared-slice-read-if2 c = search needs
 
 returns-2 : tie.Need-returns-2
 returns-2 c = rw (from-byte _ _ (c .before .before .if1 .left), eq-eqb _ semicolon (c .if2 .taken))
@@ -25,4 +19,4 @@ returns-3 c = rw (from-byte _ _ (c .before .before .if1 .left), ne-eqb _ semicol
 
 pub line-from-spec : {M : Type 1} → statement M
 line-from-spec =
-    tie.close (tie.spec alone-requires returns shared-slice-read-if2 returns-2 returns-3)
+    tie.close (tie.spec (λ c κs. search needs) returns (λ c. search needs) returns-2 returns-3)

@@ -17,24 +17,6 @@ Inv-loop s b i₀ i = (i ≤ length s) × (find b s ≡ i + find b (drop i s))
 abbrev μ-loop : tie.MeasureT-loop
 μ-loop s b i₀ i = length s - i
 
-loop-holds : tie.Need-loop-holds Inv-loop μ-loop
-loop-holds c = search needs
-
-sub-loop : tie.Need-sub-loop Inv-loop μ-loop
-sub-loop c = search needs
-
-none-of-eight-requires : tie.Need-none-of-eight-requires Inv-loop μ-loop
-none-of-eight-requires c κs = search needs
-
-returns : tie.Need-returns Inv-loop μ-loop
-returns c = search needs
-
-add-i : tie.Need-add-i Inv-loop μ-loop
-add-i c = search needs
-
-loop-less : tie.Need-loop-less Inv-loop μ-loop
-loop-less c = search needs
-
 loop-again : tie.Need-loop-again Inv-loop μ-loop
 loop-again c =
     let l = c .before .before .before in
@@ -43,20 +25,13 @@ loop-again c =
     let over = find-over (a .b) 8 (drop (l .loop .i) (a .s .now)) (leb-true 8 _ none) in
     (search needs, omega (arith, l .loop .inv .1, over, ap (find (a .b)) (drop-drop 8 (l .loop .i) (a .s .now))))
 
-returns-2 : tie.Need-returns-2 Inv-loop μ-loop
-returns-2 c = search needs
-
 pub place-before-spec : {M : Type 1} → statement M
 place-before-spec =
     tie.close
     (tie.spec
     Inv-loop
     μ-loop
-    loop-holds
-    sub-loop
-    none-of-eight-requires
-    returns
-    add-i
-    loop-less
+    (λ c. search needs) (λ c. search needs) (λ c κs. search needs) (λ c. search needs) (λ c. search needs)
+    (λ c. search needs)
     loop-again
-    returns-2)
+    (λ c. search needs))

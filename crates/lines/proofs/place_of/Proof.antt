@@ -15,27 +15,15 @@ Inv-loop s b i₀ i = (i ≤ length s) × (find b s ≡ i + find b (drop i s))
 abbrev μ-loop : tie.MeasureT-loop
 μ-loop s b i₀ i = length s - i
 
-place-before-requires : tie.Need-place-before-requires Inv-loop μ-loop
-place-before-requires c κs = search needs
-
 loop-holds : tie.Need-loop-holds Inv-loop μ-loop
 loop-holds c =
     let a = c .before .before .args in (omega (arith, c .place-before .ensures, find-le (a .b) (a .s .now)), c .place-before .ensures)
-
-shared-slice-read-if1 : tie.Need-shared-slice-read-if1 Inv-loop μ-loop
-shared-slice-read-if1 c = search needs
 
 returns : tie.Need-returns Inv-loop μ-loop
 returns c =
     let l = c .before .before .before in
     let a = l .before .before .before .args in
     omega (arith, find-here (a .s .now) (a .b) (l .loop .i) (search needs) (c .if1 .taken))
-
-add-i : tie.Need-add-i Inv-loop μ-loop
-add-i c = search needs
-
-loop-less : tie.Need-loop-less Inv-loop μ-loop
-loop-less c = search needs
 
 loop-again : tie.Need-loop-again Inv-loop μ-loop
 loop-again c =
@@ -55,11 +43,10 @@ place-of-spec =
     (tie.spec
     Inv-loop
     μ-loop
-    place-before-requires
+    (λ c κs. search needs)
     loop-holds
-    shared-slice-read-if1
+    (λ c. search needs)
     returns
-    add-i
-    loop-less
+    (λ c. search needs) (λ c. search needs)
     loop-again
     returns-2)

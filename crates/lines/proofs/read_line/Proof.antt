@@ -3,14 +3,8 @@ use borrow.Author.Needs.{needs}
 use Rattle.lines.proofs.read_line.Statement.{statement}
 use Rattle.lines.proofs.read_line.Tie as tie
 
-table-requires : tie.Need-table-requires
-table-requires c κs = search needs
-
-read-line-by-requires : tie.Need-read-line-by-requires
-read-line-by-requires c κs = search needs
-
 returns : tie.Need-returns
 returns c = c .read-line-by .ensures (c .before .before .table .ensures)
 
 pub read-line-spec : {M : Type 1} → statement M
-read-line-spec = tie.close (tie.spec table-requires read-line-by-requires returns)
+read-line-spec = tie.close (tie.spec (λ c κs. search needs) (λ c κs. search needs) returns)

@@ -6,12 +6,6 @@ use Rattle.lines.proofs.Heads.{head-read, text-fits}
 use Rattle.lines.proofs.read_line_by.Statement.{statement}
 use Rattle.lines.proofs.read_line_by.Tie as tie
 
-head-of-requires : tie.Need-head-of-requires
-head-of-requires c κs = search needs
-
-head-length-requires : tie.Need-head-length-requires
-head-length-requires c κs = search needs
-
 sub-first-line : tie.Need-sub-first-line
 sub-first-line c = omega (arith, c .head-length .ensures, c .before .head-of .ensures .0)
 
@@ -20,15 +14,6 @@ part-first-line-start c = omega (arith, c .head-length .ensures, c .before .head
 
 part-first-line-end : tie.Need-part-first-line-end
 part-first-line-end c = omega (arith, c .head-length .ensures, c .before .head-of .ensures .0)
-
-first-line-requires : tie.Need-first-line-requires
-first-line-requires c κs = search needs
-
-after-spaces-requires : tie.Need-after-spaces-requires
-after-spaces-requires c κs = search needs
-
-line-from-requires : tie.Need-line-from-requires
-line-from-requires c κs = search needs
 
 add-t12 : tie.Need-add-t12
 add-t12 c =
@@ -51,13 +36,10 @@ pub read-line-by-spec : {M : Type 1} → statement M
 read-line-by-spec =
     tie.close
     (tie.spec
-    head-of-requires
-    head-length-requires
+    (λ c κs. search needs) (λ c κs. search needs)
     sub-first-line
     part-first-line-start
     part-first-line-end
-    first-line-requires
-    after-spaces-requires
-    line-from-requires
+    (λ c κs. search needs) (λ c κs. search needs) (λ c κs. search needs)
     add-t12
     returns)

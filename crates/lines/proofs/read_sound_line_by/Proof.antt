@@ -10,27 +10,6 @@ use Rattle.lines.proofs.Heads.{head-read, text-fits, alone-line}
 use Rattle.lines.proofs.read_sound_line_by.Statement.{statement}
 use Rattle.lines.proofs.read_sound_line_by.Tie as tie
 
-head-of-requires : tie.Need-head-of-requires
-head-of-requires c κs = search needs
-
-head-length-requires : tie.Need-head-length-requires
-head-length-requires c κs = search needs
-
-alone-requires : tie.Need-alone-requires
-alone-requires c κs = search needs
-
-sub-place-of : tie.Need-sub-place-of
-sub-place-of c = search needs
-
-part-place-of-start : tie.Need-part-place-of-start
-part-place-of-start c = search needs
-
-part-place-of-end : tie.Need-part-place-of-end
-part-place-of-end c = search needs
-
-place-of-requires : tie.Need-place-of-requires
-place-of-requires c κs = search needs
-
 add-t8 : tie.Need-add-t8
 add-t8 c =
     let n = c .before .before .before .head-length in
@@ -57,12 +36,7 @@ pub read-sound-line-by-spec : {M : Type 1} → statement M
 read-sound-line-by-spec =
     tie.close
     (tie.spec
-    head-of-requires
-    head-length-requires
-    alone-requires
-    sub-place-of
-    part-place-of-start
-    part-place-of-end
-    place-of-requires
+    (λ c κs. search needs) (λ c κs. search needs) (λ c κs. search needs) (λ c. search needs) (λ c. search needs)
+    (λ c. search needs) (λ c κs. search needs)
     add-t8
     returns)

@@ -25,24 +25,6 @@ abbrev μ-loop : tie.MeasureT-loop
 loop-holds : tie.Need-loop-holds Inv-loop μ-loop
 loop-holds c = (refl, omega arith, omega arith, omega arith)
 
-sub-read-line-by : tie.Need-sub-read-line-by Inv-loop μ-loop
-sub-read-line-by c = search needs
-
-part-read-line-by-start : tie.Need-part-read-line-by-start Inv-loop μ-loop
-part-read-line-by-start c = search needs
-
-part-read-line-by-end : tie.Need-part-read-line-by-end Inv-loop μ-loop
-part-read-line-by-end c = search needs
-
-read-line-by-requires : tie.Need-read-line-by-requires Inv-loop μ-loop
-read-line-by-requires c κs = search needs
-
-judge-requires : tie.Need-judge-requires Inv-loop μ-loop
-judge-requires c κs = search needs
-
-enum-known-verdict : tie.Need-enum-known-verdict Inv-loop μ-loop
-enum-known-verdict c = search needs
-
 returns : tie.Need-returns Inv-loop μ-loop
 unfolding listingAnswer checkOf
 returns c =
@@ -56,15 +38,6 @@ returns c =
       l .loop .inv .0,
       faulty-line t (s .limit) (l .loop .lowest) (faultNumber (f .0 .0)) (sym v ∙ ap verdictNumber (f .1)) (numbered (f .0 .0)),
     )
-
-enum-told : tie.Need-enum-told Inv-loop μ-loop
-enum-told c = search needs
-
-lowest-after-requires : tie.Need-lowest-after-requires Inv-loop μ-loop
-lowest-after-requires c κs = search needs
-
-words-of-requires : tie.Need-words-of-requires Inv-loop μ-loop
-words-of-requires c κs = search needs
 
 add-count : tie.Need-add-count Inv-loop μ-loop
 add-count c =
@@ -121,16 +94,10 @@ check-spec =
     Inv-loop
     μ-loop
     loop-holds
-    sub-read-line-by
-    part-read-line-by-start
-    part-read-line-by-end
-    read-line-by-requires
-    judge-requires
-    enum-known-verdict
+    (λ c. search needs) (λ c. search needs) (λ c. search needs) (λ c κs. search needs) (λ c κs. search needs)
+    (λ c. search needs)
     returns
-    enum-told
-    lowest-after-requires
-    words-of-requires
+    (λ c. search needs) (λ c κs. search needs) (λ c κs. search needs)
     add-count
     add-at
     add-at-2

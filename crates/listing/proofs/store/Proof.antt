@@ -7,27 +7,12 @@ use Rattle.listing.proofs.Decided.{passed, accepted, refuses}
 use Rattle.listing.proofs.store.Statement.{statement}
 use Rattle.listing.proofs.store.Tie as tie
 
-table-requires : tie.Need-table-requires
-table-requires c κs = search needs
-
-check-requires : tie.Need-check-requires
-check-requires c κs = search needs
-
-enum-told : tie.Need-enum-told
-enum-told c = search needs
-
 store-lines-requires : tie.Need-store-lines-requires
 store-lines-requires c κs =
     let k = c .before .before .before .before in
     let a = k .before .before .before .before .before .args in
     let e = sym (k .check .ensures) ∙ ap storeAnswer (c .before .before .enum-told .given .1) in
     (k .before .before .table .ensures, passed (a .listing .now) (length (a .memory .now)) _ e)
-
-enum-told-2 : tie.Need-enum-told-2
-enum-told-2 c = search needs
-
-same-length : tie.Need-same-length
-same-length c = search needs
 
 returns : tie.Need-returns
 returns c =
@@ -47,11 +32,8 @@ pub store-spec : {M : Type 1} → statement M
 store-spec =
     tie.close
     (tie.spec
-    table-requires
-    check-requires
-    enum-told
+    (λ c κs. search needs) (λ c κs. search needs) (λ c. search needs)
     store-lines-requires
-    enum-told-2
-    same-length
+    (λ c. search needs) (λ c. search needs)
     returns
     returns-2)

@@ -24,21 +24,6 @@ loop-holds : tie.Need-loop-holds Inv-loop μ-loop
 unfolding checkOf
 loop-holds c = (refl, refl, omega arith, (0, c .before .before .pre .1))
 
-sub-read-sound-line-by : tie.Need-sub-read-sound-line-by Inv-loop μ-loop
-sub-read-sound-line-by c = search needs
-
-part-read-sound-line-by-start : tie.Need-part-read-sound-line-by-start Inv-loop μ-loop
-part-read-sound-line-by-start c = search needs
-
-part-read-sound-line-by-end : tie.Need-part-read-sound-line-by-end Inv-loop μ-loop
-part-read-sound-line-by-end c = search needs
-
-read-sound-line-by-requires : tie.Need-read-sound-line-by-requires Inv-loop μ-loop
-read-sound-line-by-requires c κs = search needs
-
-store-line-requires : tie.Need-store-line-requires Inv-loop μ-loop
-store-line-requires c κs = search needs
-
 add-at : tie.Need-add-at Inv-loop μ-loop
 add-at c =
     let r = c .before .before .before .before .before in
@@ -91,11 +76,7 @@ store-lines-spec =
     Inv-loop
     μ-loop
     loop-holds
-    sub-read-sound-line-by
-    part-read-sound-line-by-start
-    part-read-sound-line-by-end
-    read-sound-line-by-requires
-    store-line-requires
+    (λ c. search needs) (λ c. search needs) (λ c. search needs) (λ c κs. search needs) (λ c κs. search needs)
     add-at
     add-at-2
     loop-less

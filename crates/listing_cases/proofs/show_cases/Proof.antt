@@ -13,33 +13,11 @@ Inv-loop memory₀ keep cases at₀ memory at = length memory ≡ length memory�
 abbrev μ-loop : tie.MeasureT-loop
 μ-loop memory₀ keep cases at₀ memory at = length cases - at
 
-loop-holds : tie.Need-loop-holds Inv-loop μ-loop
-loop-holds c = search needs
-
-show-case-requires : tie.Need-show-case-requires Inv-loop μ-loop
-show-case-requires c κs = search needs
-
-loop-less : tie.Need-loop-less Inv-loop μ-loop
-loop-less c = search needs
-
-loop-again : tie.Need-loop-again Inv-loop μ-loop
-loop-again c = search needs
-
-same-length : tie.Need-same-length Inv-loop μ-loop
-same-length c = search needs
-
-returns : tie.Need-returns Inv-loop μ-loop
-returns c = search needs
-
 pub show-cases-spec : {M : Type 1} → statement M
 show-cases-spec =
     tie.close
     (tie.spec
     Inv-loop
     μ-loop
-    loop-holds
-    show-case-requires
-    loop-less
-    loop-again
-    same-length
-    returns)
+    (λ c. search needs) (λ c κs. search needs) (λ c. search needs) (λ c. search needs) (λ c. search needs)
+    (λ c. search needs))

@@ -27,27 +27,6 @@ loop-holds c =
     let a = c .before .before .args in
     (omega arith, omega arith, verdict-starts (readCalls (a .text .now) (a .calls .now)) (a .room))
 
-mul-front-call : tie.Need-mul-front-call Inv-loop μ-loop
-mul-front-call c = search needs
-
-sub-front-call : tie.Need-sub-front-call Inv-loop μ-loop
-sub-front-call c = search needs
-
-part-front-call-start : tie.Need-part-front-call-start Inv-loop μ-loop
-part-front-call-start c = search needs
-
-part-front-call-end : tie.Need-part-front-call-end Inv-loop μ-loop
-part-front-call-end c = search needs
-
-front-call-requires : tie.Need-front-call-requires Inv-loop μ-loop
-front-call-requires c κs = search needs
-
-enum-told : tie.Need-enum-told Inv-loop μ-loop
-enum-told c = search needs
-
-enum-told-2 : tie.Need-enum-told-2 Inv-loop μ-loop
-enum-told-2 c = search needs
-
 returns : tie.Need-returns Inv-loop μ-loop
 returns c =
     let l = c .before .before .before .before .before .loop in
@@ -57,9 +36,6 @@ returns c =
     ∙ ap (λ (r : Reading). verdictFrom (l .i) r (a .room))
     (reads-at (a .text .now) (l .i) (a .calls .now) (l .at) readAs.NoCall (c .before .before .before .before .loop-test .taken)
     (sym (c .enum-told2 .given .1) ∙ c .before .before .front-call .ensures .0)))
-
-enum-told-3 : tie.Need-enum-told-3 Inv-loop μ-loop
-enum-told-3 c = search needs
 
 returns-2 : tie.Need-returns-2 Inv-loop μ-loop
 returns-2 c =
@@ -128,15 +104,10 @@ check-spec =
     Inv-loop
     μ-loop
     loop-holds
-    mul-front-call
-    sub-front-call
-    part-front-call-start
-    part-front-call-end
-    front-call-requires
-    enum-told
-    enum-told-2
+    (λ c. search needs) (λ c. search needs) (λ c. search needs) (λ c. search needs) (λ c κs. search needs)
+    (λ c. search needs) (λ c. search needs)
     returns
-    enum-told-3
+    (λ c. search needs)
     returns-2
     add-at
     add-i

@@ -8,18 +8,6 @@ use Rattle.lists.proofs.front_call.Tie as tie
 returns : tie.Need-returns
 returns c = (front-short (c .before .before .args .calls .now) (c .before .before .args .size) (c .if1 .taken), (tt, tt))
 
-shared-slice-read-read-call : tie.Need-shared-slice-read-read-call
-shared-slice-read-read-call c = search needs
-
-shared-slice-read-read-call-2 : tie.Need-shared-slice-read-read-call-2
-shared-slice-read-read-call-2 c = search needs
-
-shared-slice-read-read-call-3 : tie.Need-shared-slice-read-read-call-3
-shared-slice-read-read-call-3 c = search needs
-
-read-call-requires : tie.Need-read-call-requires
-read-call-requires c κs = search needs
-
 returns-2 : tie.Need-returns-2
 returns-2 c =
     let a = c .before .before .before .before .before .before .args in
@@ -31,8 +19,5 @@ front-call-spec =
     tie.close
     (tie.spec
     returns
-    shared-slice-read-read-call
-    shared-slice-read-read-call-2
-    shared-slice-read-read-call-3
-    read-call-requires
+    (λ c. search needs) (λ c. search needs) (λ c. search needs) (λ c κs. search needs)
     returns-2)

@@ -25,31 +25,10 @@ Inv-loop calls text memory₀ answers₀ core₀ at₀ to₀ memory answers core
 abbrev μ-loop : tie.MeasureT-loop
 μ-loop calls text memory₀ answers₀ core₀ at₀ to₀ memory answers core at to = length calls - at
 
-fresh-requires : tie.Need-fresh-requires Inv-loop μ-loop
-fresh-requires c κs = search needs
-
 loop-holds : tie.Need-loop-holds Inv-loop μ-loop
 loop-holds c =
     let a = c .before .before .before .before .before .args in
     starts (a .text .now) (a .calls .now) (a .memory .now) (a .answers .now) (c .fresh .result) (c .fresh .ensures) (c .before .before .before .before .before .pre)
-
-mul-front-call : tie.Need-mul-front-call Inv-loop μ-loop
-mul-front-call c = search needs
-
-sub-front-call : tie.Need-sub-front-call Inv-loop μ-loop
-sub-front-call c = search needs
-
-part-front-call-start : tie.Need-part-front-call-start Inv-loop μ-loop
-part-front-call-start c = search needs
-
-part-front-call-end : tie.Need-part-front-call-end Inv-loop μ-loop
-part-front-call-end c = search needs
-
-front-call-requires : tie.Need-front-call-requires Inv-loop μ-loop
-front-call-requires c κs = search needs
-
-enum-known-read : tie.Need-enum-known-read Inv-loop μ-loop
-enum-known-read c = search needs
 
 play-requires : tie.Need-play-requires Inv-loop μ-loop
 play-requires c κs =
@@ -61,15 +40,6 @@ put-at-requires c κs =
     let r = c .before .before .before .before .before .before .before .before .before .before .before .before .loop .inv in
     omega (arith, r .room)
 
-enum-told : tie.Need-enum-told Inv-loop μ-loop
-enum-told c = search needs
-
-same-length : tie.Need-same-length Inv-loop μ-loop
-same-length c = search needs
-
-same-length-2 : tie.Need-same-length-2 Inv-loop μ-loop
-same-length-2 c = search needs
-
 returns : tie.Need-returns Inv-loop μ-loop
 returns c =
     let r = c .before .before .before .before .before .loop in
@@ -77,15 +47,6 @@ returns c =
     let ahead = reads-at (a .text .now) (r .inv .i) (a .calls .now) (r .at) readAs.NoCall (c .before .before .before .before .loop-test .taken)
     (sym (c .enum-told .given .1) ∙ c .before .before .front-call .ensures .0) in
     absurd (not-listed-call (r .inv .left) (r .inv .i) (sym (r .inv .reads) ∙ ahead))
-
-enum-told-2 : tie.Need-enum-told-2 Inv-loop μ-loop
-enum-told-2 c = search needs
-
-same-length-3 : tie.Need-same-length-3 Inv-loop μ-loop
-same-length-3 c = search needs
-
-same-length-4 : tie.Need-same-length-4 Inv-loop μ-loop
-same-length-4 c = search needs
 
 returns-2 : tie.Need-returns-2 Inv-loop μ-loop
 returns-2 c =
@@ -126,12 +87,6 @@ loop-less c = omega (arith, onward c .0)
 loop-again : tie.Need-loop-again Inv-loop μ-loop
 loop-again c = onward c .2
 
-same-length-5 : tie.Need-same-length-5 Inv-loop μ-loop
-same-length-5 c = search needs
-
-same-length-6 : tie.Need-same-length-6 Inv-loop μ-loop
-same-length-6 c = search needs
-
 returns-3 : tie.Need-returns-3 Inv-loop μ-loop
 returns-3 c =
     let r = c .before .loop in
@@ -144,28 +99,19 @@ play-all-spec =
     (tie.spec
     Inv-loop
     μ-loop
-    fresh-requires
+    (λ c κs. search needs)
     loop-holds
-    mul-front-call
-    sub-front-call
-    part-front-call-start
-    part-front-call-end
-    front-call-requires
-    enum-known-read
+    (λ c. search needs) (λ c. search needs) (λ c. search needs) (λ c. search needs) (λ c κs. search needs)
+    (λ c. search needs)
     play-requires
     put-at-requires
-    enum-told
-    same-length
-    same-length-2
+    (λ c. search needs) (λ c. search needs) (λ c. search needs)
     returns
-    enum-told-2
-    same-length-3
-    same-length-4
+    (λ c. search needs) (λ c. search needs) (λ c. search needs)
     returns-2
     add-at
     add-to
     loop-less
     loop-again
-    same-length-5
-    same-length-6
+    (λ c. search needs) (λ c. search needs)
     returns-3)

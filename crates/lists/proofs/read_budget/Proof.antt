@@ -7,11 +7,8 @@ use Rattle.lists.proofs.read_budget.Tie as tie
 returns : tie.Need-returns
 returns c = (simp (lt-leb _ _ (c .if1 .taken)), λ size. tt)
 
-cast-t3 : tie.Need-cast-t3
-cast-t3 c = search needs
-
 returns-2 : tie.Need-returns-2
 returns-2 c = (simp (le-leb _ _ (c .if1 .left)), λ size. tt)
 
 pub read-budget-spec : {M : Type 1} → statement M
-read-budget-spec = tie.close (tie.spec returns cast-t3 returns-2)
+read-budget-spec = tie.close (tie.spec returns (λ c. search needs) returns-2)

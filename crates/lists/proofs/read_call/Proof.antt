@@ -7,16 +7,10 @@ use Rattle.lists.proofs.read_call.Tie as tie
 returns : tie.Need-returns
 returns c = (simp (eq-eqb _ _ (c .if1 .taken)), tt)
 
-read-stretch-requires : tie.Need-read-stretch-requires
-read-stretch-requires c κs = search needs
-
 returns-2 : tie.Need-returns-2
 returns-2 c =
     let t = c .before in
     (simp (ne-eqb _ _ (t .before .if1 .left), eq-eqb _ _ (t .if2 .taken)) (c .read-stretch .ensures .0), c .read-stretch .ensures .1)
-
-read-budget-requires : tie.Need-read-budget-requires
-read-budget-requires c κs = search needs
 
 returns-3 : tie.Need-returns-3
 returns-3 c =
@@ -43,9 +37,9 @@ read-call-spec =
     tie.close
     (tie.spec
     returns
-    read-stretch-requires
+    (λ c κs. search needs)
     returns-2
-    read-budget-requires
+    (λ c κs. search needs)
     returns-3
     returns-4
     returns-5

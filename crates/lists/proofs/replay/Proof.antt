@@ -8,32 +8,11 @@ use borrow.Author.Needs.{needs}
 use Rattle.lists.proofs.replay.Statement.{statement}
 use Rattle.lists.proofs.replay.Tie as tie
 
-check-requires : tie.Need-check-requires
-check-requires c κs = search needs
-
-enum-told : tie.Need-enum-told
-enum-told c = search needs
-
 play-all-requires : tie.Need-play-all-requires
 play-all-requires c κs =
     let a = c .before .before .before .before .before .before .before .before .before .args in
     playable-when (readCalls (a .text .now) (a .calls .now)) (length (a .answers .now)) (c .before .before .enum-told .given .0 .0)
     (sym (c .before .before .before .before .check .ensures) ∙ c .before .before .enum-told .given .1)
-
-enum-told-2 : tie.Need-enum-told-2
-enum-told-2 c = search needs
-
-enum-told-3 : tie.Need-enum-told-3
-enum-told-3 c = search needs
-
-enum-told-4 : tie.Need-enum-told-4
-enum-told-4 c = search needs
-
-same-length : tie.Need-same-length
-same-length c = search needs
-
-same-length-2 : tie.Need-same-length-2
-same-length-2 c = search needs
 
 returns : tie.Need-returns
 returns c =
@@ -73,14 +52,9 @@ pub replay-spec : {M : Type 1} → statement M
 replay-spec =
     tie.close
     (tie.spec
-    check-requires
-    enum-told
+    (λ c κs. search needs) (λ c. search needs)
     play-all-requires
-    enum-told-2
-    enum-told-3
-    enum-told-4
-    same-length
-    same-length-2
+    (λ c. search needs) (λ c. search needs) (λ c. search needs) (λ c. search needs) (λ c. search needs)
     returns
     returns-2
     returns-3

@@ -12,35 +12,8 @@ Inv-loop answers from numbers₀ i₀ numbers i = (i ≤ 23) × (length numbers 
 abbrev μ-loop : tie.MeasureT-loop
 μ-loop answers from numbers₀ i₀ numbers i = 23 - i
 
-loop-holds : tie.Need-loop-holds Inv-loop μ-loop
-loop-holds c = search needs
-
-add-numbers : tie.Need-add-numbers Inv-loop μ-loop
-add-numbers c = search needs
-
-mul-numbers : tie.Need-mul-numbers Inv-loop μ-loop
-mul-numbers c = search needs
-
-shared-slice-read-numbers : tie.Need-shared-slice-read-numbers Inv-loop μ-loop
-shared-slice-read-numbers c = search needs
-
-mul-numbers-2 : tie.Need-mul-numbers-2 Inv-loop μ-loop
-mul-numbers-2 c = search needs
-
-array-write-numbers : tie.Need-array-write-numbers Inv-loop μ-loop
-array-write-numbers c = search needs
-
-add-i : tie.Need-add-i Inv-loop μ-loop
-add-i c = search needs
-
-loop-less : tie.Need-loop-less Inv-loop μ-loop
-loop-less c = search needs
-
 loop-again : tie.Need-loop-again Inv-loop μ-loop
 loop-again c = (search needs, simp length-set (search needs))
-
-returns : tie.Need-returns Inv-loop μ-loop
-returns c = search needs
 
 pub numbers-at-spec : {M : Type 1} → statement M
 numbers-at-spec =
@@ -48,13 +21,7 @@ numbers-at-spec =
     (tie.spec
     Inv-loop
     μ-loop
-    loop-holds
-    add-numbers
-    mul-numbers
-    shared-slice-read-numbers
-    mul-numbers-2
-    array-write-numbers
-    add-i
-    loop-less
+    (λ c. search needs) (λ c. search needs) (λ c. search needs) (λ c. search needs) (λ c. search needs) (λ c. search needs)
+    (λ c. search needs) (λ c. search needs)
     loop-again
-    returns)
+    (λ c. search needs))

@@ -10,49 +10,12 @@ Inv-loop page₀ rows count at₀ i₀ page at i = (at ≤ 8192) × (i ≤ count
 abbrev μ-loop : tie.MeasureT-loop
 μ-loop page₀ rows count at₀ i₀ page at i = count - i
 
-loop-holds : tie.Need-loop-holds Inv-loop μ-loop
-loop-holds c = search needs
-
-cast-row-text : tie.Need-cast-row-text Inv-loop μ-loop
-cast-row-text c = search needs
-
-mul-row-text : tie.Need-mul-row-text Inv-loop μ-loop
-mul-row-text c = search needs
-
-row-text-requires : tie.Need-row-text-requires Inv-loop μ-loop
-row-text-requires c κs = search needs
-
-slice-aggregate-put : tie.Need-slice-aggregate-put Inv-loop μ-loop
-slice-aggregate-put c = search needs
-
-put-requires : tie.Need-put-requires Inv-loop μ-loop
-put-requires c κs = search needs
-
-add-i : tie.Need-add-i Inv-loop μ-loop
-add-i c = search needs
-
-loop-less : tie.Need-loop-less Inv-loop μ-loop
-loop-less c = search needs
-
-loop-again : tie.Need-loop-again Inv-loop μ-loop
-loop-again c = search needs
-
-returns : tie.Need-returns Inv-loop μ-loop
-returns c = search needs
-
 pub put-lines-spec : {M : Type 1} → statement M
 put-lines-spec =
     tie.close
     (tie.spec
     Inv-loop
     μ-loop
-    loop-holds
-    cast-row-text
-    mul-row-text
-    row-text-requires
-    slice-aggregate-put
-    put-requires
-    add-i
-    loop-less
-    loop-again
-    returns)
+    (λ c. search needs) (λ c. search needs) (λ c. search needs) (λ c κs. search needs) (λ c. search needs)
+    (λ c κs. search needs) (λ c. search needs) (λ c. search needs) (λ c. search needs)
+    (λ c. search needs))

@@ -25,18 +25,6 @@ loop-holds : tie.Need-loop-holds Inv-loop μ-loop
 unfolding scriptOf
 loop-holds c = (verdict-starts (scriptOf (c .before .args .text .now)), omega arith, omega arith, omega arith)
 
-sub-read-line : tie.Need-sub-read-line Inv-loop μ-loop
-sub-read-line c = search needs
-
-part-read-line-start : tie.Need-part-read-line-start Inv-loop μ-loop
-part-read-line-start c = search needs
-
-part-read-line-end : tie.Need-part-read-line-end Inv-loop μ-loop
-part-read-line-end c = search needs
-
-read-line-requires : tie.Need-read-line-requires Inv-loop μ-loop
-read-line-requires c κs = search needs
-
 add-end : tie.Need-add-end Inv-loop μ-loop
 add-end c =
     let l = c .before .before .before .before .loop in
@@ -65,15 +53,6 @@ part-read-command-end c =
     let read = c .before .read-line in
     omega (arith, line-within text (l .at) (c .before .before .before .loop-test .taken) (read .ensures .1))
 
-read-command-requires : tie.Need-read-command-requires Inv-loop μ-loop
-read-command-requires c κs = search needs
-
-meaning-of-requires : tie.Need-meaning-of-requires Inv-loop μ-loop
-meaning-of-requires c κs = search needs
-
-cannot-be-read-requires : tie.Need-cannot-be-read-requires Inv-loop μ-loop
-cannot-be-read-requires c κs = search needs
-
 returns : tie.Need-returns Inv-loop μ-loop
 returns c =
     let l = c .before .before .before .before .before .before .before .before .before .loop in
@@ -95,12 +74,6 @@ add-at c =
     let read = c .before .before .before .before .before .before .read-line in
     let t = turn text (l .at) (c .before .before .before .before .before .before .before .before .loop-test .taken) (read .ensures .1) (c .before .before .before .read-command .ensures) in
     omega (arith, t .within)
-
-place-after-requires : tie.Need-place-after-requires Inv-loop μ-loop
-place-after-requires c κs = search needs
-
-calls-in-requires : tie.Need-calls-in-requires Inv-loop μ-loop
-calls-in-requires c κs = search needs
 
 add-count : tie.Need-add-count Inv-loop μ-loop
 add-count c =
@@ -145,9 +118,6 @@ loop-again c =
       omega (arith, l .inv .3),
     )
 
-at-end-requires : tie.Need-at-end-requires Inv-loop μ-loop
-at-end-requires c κs = search needs
-
 returns-2 : tie.Need-returns-2 Inv-loop μ-loop
 returns-2 c =
     let l = c .before .before .loop in
@@ -165,24 +135,18 @@ check-spec =
     Inv-loop
     μ-loop
     loop-holds
-    sub-read-line
-    part-read-line-start
-    part-read-line-end
-    read-line-requires
+    (λ c. search needs) (λ c. search needs) (λ c. search needs) (λ c κs. search needs)
     add-end
     sub-read-command
     part-read-command-start
     part-read-command-end
-    read-command-requires
-    meaning-of-requires
-    cannot-be-read-requires
+    (λ c κs. search needs) (λ c κs. search needs) (λ c κs. search needs)
     returns
     add-at
-    place-after-requires
-    calls-in-requires
+    (λ c κs. search needs) (λ c κs. search needs)
     add-count
     add-number
     loop-less
     loop-again
-    at-end-requires
+    (λ c κs. search needs)
     returns-2)

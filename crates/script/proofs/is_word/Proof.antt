@@ -11,9 +11,6 @@ use borrow.Author.Needs.{needs}
 use Rattle.script.proofs.is_word.Statement.{statement}
 use Rattle.script.proofs.is_word.Tie as tie
 
-begins-with-requires : tie.Need-begins-with-requires
-begins-with-requires c κs = search needs
-
 sub-line-ends : tie.Need-sub-line-ends
 sub-line-ends c =
     let a = c .before .before .before .before .args in
@@ -23,12 +20,6 @@ part-line-ends-start : tie.Need-part-line-ends-start
 part-line-ends-start c =
     let a = c .before .before .before .before .args in
     omega (arith, begins-length (a .word .now) (a .line .now) (sym (c .before .begins-with .ensures) ∙ c .if1 .taken))
-
-part-line-ends-end : tie.Need-part-line-ends-end
-part-line-ends-end c = search needs
-
-line-ends-requires : tie.Need-line-ends-requires
-line-ends-requires c κs = search needs
 
 returns : tie.Need-returns
 unfolding says
@@ -48,10 +39,9 @@ pub is-word-spec : {M : Type 1} → statement M
 is-word-spec =
     tie.close
     (tie.spec
-    begins-with-requires
+    (λ c κs. search needs)
     sub-line-ends
     part-line-ends-start
-    part-line-ends-end
-    line-ends-requires
+    (λ c. search needs) (λ c κs. search needs)
     returns
     returns-2)

@@ -6,8 +6,5 @@ use Rattle.script.proofs.place_opened.Tie as tie
 returns : tie.Need-returns
 returns c = rw (c .if1 .taken)
 
-returns-2 : tie.Need-returns-2
-returns-2 c = search needs
-
 pub place-opened-spec : {M : Type 1} → statement M
-place-opened-spec = tie.close (tie.spec returns returns-2)
+place-opened-spec = tie.close (tie.spec returns (λ c. search needs))

@@ -8,12 +8,6 @@ use borrow.Author.Needs.{needs}
 use Rattle.script.proofs.read.Statement.{statement}
 use Rattle.script.proofs.read.Tie as tie
 
-check-requires : tie.Need-check-requires
-check-requires c κs = search needs
-
-enum-known-answer : tie.Need-enum-known-answer
-enum-known-answer c = search needs
-
 returns : tie.Need-returns
 returns c =
     let a = c .before .before .before .before .before .before .before .args in
@@ -31,15 +25,6 @@ write-calls-requires c κs =
     let told = c .before .before .before .answer .given in
     let found = sym (c .before .before .before .before .before .check .ensures) ∙ told .1 in
     fits-when script old (told .0 .0) found (c .before .if1 .left)
-
-enum-told : tie.Need-enum-told
-enum-told c = search needs
-
-enum-told-2 : tie.Need-enum-told-2
-enum-told-2 c = search needs
-
-same-length : tie.Need-same-length
-same-length c = search needs
 
 returns-2 : tie.Need-returns-2
 returns-2 c =
@@ -68,13 +53,10 @@ pub read-spec : {M : Type 1} → statement M
 read-spec =
     tie.close
     (tie.spec
-    check-requires
-    enum-known-answer
+    (λ c κs. search needs) (λ c. search needs)
     returns
     write-calls-requires
-    enum-told
-    enum-told-2
-    same-length
+    (λ c. search needs) (λ c. search needs) (λ c. search needs)
     returns-2
     returns-3
     returns-4)

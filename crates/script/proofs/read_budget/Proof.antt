@@ -22,38 +22,11 @@ abbrev μ-loop : tie.MeasureT-loop
 returns : tie.Need-returns Inv-loop μ-loop
 returns c = no-digits (c .before .before .args .s .now) (c .if1 .taken)
 
-shared-slice-read-is-digit : tie.Need-shared-slice-read-is-digit Inv-loop μ-loop
-shared-slice-read-is-digit c = search needs
-
-is-digit-requires : tie.Need-is-digit-requires Inv-loop μ-loop
-is-digit-requires c κs = search needs
-
 returns-2 : tie.Need-returns-2 Inv-loop μ-loop
 returns-2 c = no-digit (c .before .before .before .before .before .args .s .now) (sym (c .before .is-digit .ensures) ∙ not-true _ (c .if2 .taken))
 
 loop-holds : tie.Need-loop-holds Inv-loop μ-loop
 loop-holds c = (search needs, search needs, some-digit (c .before .before .before .before .before .args .s .now) (sym (c .before .is-digit .ensures) ∙ not-false _ (c .if2 .left)))
-
-shared-slice-read-is-digit-2 : tie.Need-shared-slice-read-is-digit-2 Inv-loop μ-loop
-shared-slice-read-is-digit-2 c = search needs
-
-is-digit-requires-2 : tie.Need-is-digit-requires-2 Inv-loop μ-loop
-is-digit-requires-2 c κs = search needs
-
-sub-line-ends : tie.Need-sub-line-ends Inv-loop μ-loop
-sub-line-ends c = search needs
-
-part-line-ends-start : tie.Need-part-line-ends-start Inv-loop μ-loop
-part-line-ends-start c = search needs
-
-part-line-ends-end : tie.Need-part-line-ends-end Inv-loop μ-loop
-part-line-ends-end c = search needs
-
-line-ends-requires : tie.Need-line-ends-requires Inv-loop μ-loop
-line-ends-requires c κs = search needs
-
-run-of-requires : tie.Need-run-of-requires Inv-loop μ-loop
-run-of-requires c κs = search needs
 
 returns-3 : tie.Need-returns-3 Inv-loop μ-loop
 returns-3 c =
@@ -64,20 +37,11 @@ returns-3 c =
     ∙ ap (λ (e : Bool). runOf (l .value) e) (c .before .line-ends .ensures ∙ ap ends (to-end s (l .i)))
     ∙ sym (l .inv .2 ∙ digits-over (l .value) s (l .i) (search needs) d)
 
-mul-value : tie.Need-mul-value Inv-loop μ-loop
-mul-value c = search needs
-
-shared-slice-read-wide : tie.Need-shared-slice-read-wide Inv-loop μ-loop
-shared-slice-read-wide c = search needs
-
 sub-wide : tie.Need-sub-wide Inv-loop μ-loop
 sub-wide c =
     let l = c .before .before .before .before .before .loop in
     let s = c .before .before .before .before .before .before .before .before .before .before .before .args .s .now in
     omega (arith, digit-range (getD s (l .i) 0) (sym (c .before .before .is-digit2 .ensures) ∙ not-false _ (c .before .if3 .left)))
-
-wide-requires : tie.Need-wide-requires Inv-loop μ-loop
-wide-requires c κs = search needs
 
 add-value : tie.Need-add-value Inv-loop μ-loop
 add-value c =
@@ -95,12 +59,6 @@ returns-4 c =
     ∙ digit-read (l .value) s (l .i) (search needs) d
     ∙ too-large (l .value * 10 + (getD s (l .i) 0 - 48)) (drop (l .i + 1) s) (omega (arith, c .if4 .taken, c .before .wide .ensures)))
 
-add-i : tie.Need-add-i Inv-loop μ-loop
-add-i c = search needs
-
-loop-less : tie.Need-loop-less Inv-loop μ-loop
-loop-less c = search needs
-
 loop-again : tie.Need-loop-again Inv-loop μ-loop
 loop-again c =
     let l = c .before .before .before .before .before .before .before .loop in
@@ -112,9 +70,6 @@ loop-again c =
           ∙ digit-read (l .value) s (l .i) (search needs) d
           ∙ ap (λ (n : ℕ). budgetFrom (l .value * 10 + n) (drop (l .i + 1) s)) (sym (c .before .wide .ensures)),
     )
-
-run-of-requires-2 : tie.Need-run-of-requires-2 Inv-loop μ-loop
-run-of-requires-2 c κs = search needs
 
 returns-5 : tie.Need-returns-5 Inv-loop μ-loop
 returns-5 c =
@@ -129,26 +84,18 @@ read-budget-spec =
     Inv-loop
     μ-loop
     returns
-    shared-slice-read-is-digit
-    is-digit-requires
+    (λ c. search needs) (λ c κs. search needs)
     returns-2
     loop-holds
-    shared-slice-read-is-digit-2
-    is-digit-requires-2
-    sub-line-ends
-    part-line-ends-start
-    part-line-ends-end
-    line-ends-requires
-    run-of-requires
+    (λ c. search needs) (λ c κs. search needs) (λ c. search needs) (λ c. search needs) (λ c. search needs)
+    (λ c κs. search needs) (λ c κs. search needs)
     returns-3
-    mul-value
-    shared-slice-read-wide
+    (λ c. search needs) (λ c. search needs)
     sub-wide
-    wide-requires
+    (λ c κs. search needs)
     add-value
     returns-4
-    add-i
-    loop-less
+    (λ c. search needs) (λ c. search needs)
     loop-again
-    run-of-requires-2
+    (λ c κs. search needs)
     returns-5)

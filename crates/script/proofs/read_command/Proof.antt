@@ -10,21 +10,12 @@ use borrow.Author.Needs.{needs}
 use Rattle.script.proofs.read_command.Statement.{statement}
 use Rattle.script.proofs.read_command.Tie as tie
 
-line-ends-requires : tie.Need-line-ends-requires
-line-ends-requires c κs = search needs
-
 returns : tie.Need-returns
 unfolding commandOf
 returns c =
     let line = c .before .before .before .args .line .now in
     let e1 : ends line ≡ true = sym (c .before .line-ends .ensures) ∙ c .if1 .taken in
     rw (e1)
-
-slice-aggregate-is-word : tie.Need-slice-aggregate-is-word
-slice-aggregate-is-word c = search needs
-
-is-word-requires : tie.Need-is-word-requires
-is-word-requires c κs = search needs
 
 returns-2 : tie.Need-returns-2
 unfolding commandOf
@@ -34,12 +25,6 @@ returns-2 c =
     let e2 : says resetWord line ≡ true = sym (c .before .is-word .ensures) ∙ c .if2 .taken in
     rw (e1, e2)
 
-slice-aggregate-is-word-2 : tie.Need-slice-aggregate-is-word-2
-slice-aggregate-is-word-2 c = search needs
-
-is-word-requires-2 : tie.Need-is-word-requires-2
-is-word-requires-2 c κs = search needs
-
 returns-3 : tie.Need-returns-3
 unfolding commandOf
 returns-3 c =
@@ -48,12 +33,6 @@ returns-3 c =
     let e2 : says resetWord line ≡ false = sym (c .before .before .before .before .is-word .ensures) ∙ c .before .before .before .if2 .left in
     let e3 : says loadWord line ≡ true = sym (c .before .is-word2 .ensures) ∙ c .if3 .taken in
     rw (e1, e2, e3)
-
-slice-aggregate-is-word-3 : tie.Need-slice-aggregate-is-word-3
-slice-aggregate-is-word-3 c = search needs
-
-is-word-requires-3 : tie.Need-is-word-requires-3
-is-word-requires-3 c κs = search needs
 
 returns-4 : tie.Need-returns-4
 unfolding commandOf
@@ -65,12 +44,6 @@ returns-4 c =
     let e4 : says endWord line ≡ true = sym (c .before .is-word3 .ensures) ∙ c .if4 .taken in
     rw (e1, e2, e3, e4)
 
-slice-aggregate-is-word-4 : tie.Need-slice-aggregate-is-word-4
-slice-aggregate-is-word-4 c = search needs
-
-is-word-requires-4 : tie.Need-is-word-requires-4
-is-word-requires-4 c κs = search needs
-
 returns-5 : tie.Need-returns-5
 unfolding commandOf
 returns-5 c =
@@ -81,12 +54,6 @@ returns-5 c =
     let e4 : says endWord line ≡ false = sym (c .before .before .before .before .is-word3 .ensures) ∙ c .before .before .before .if4 .left in
     let e5 : says stepWord line ≡ true = sym (c .before .is-word4 .ensures) ∙ c .if5 .taken in
     rw (e1, e2, e3, e4, e5)
-
-slice-aggregate-is-word-5 : tie.Need-slice-aggregate-is-word-5
-slice-aggregate-is-word-5 c = search needs
-
-is-word-requires-5 : tie.Need-is-word-requires-5
-is-word-requires-5 c κs = search needs
 
 returns-6 : tie.Need-returns-6
 unfolding commandOf
@@ -100,12 +67,6 @@ returns-6 c =
     let e6 : says viewWord line ≡ true = sym (c .before .is-word5 .ensures) ∙ c .if6 .taken in
     rw (e1, e2, e3, e4, e5, e6)
 
-slice-aggregate-begins-with : tie.Need-slice-aggregate-begins-with
-slice-aggregate-begins-with c = search needs
-
-begins-with-requires : tie.Need-begins-with-requires
-begins-with-requires c κs = search needs
-
 sub-read-budget : tie.Need-sub-read-budget
 sub-read-budget c =
     let line = c .before .before .before .before .before .before .before .before .before .before .before .before .before .before .before .before .before .before .before .before .before .args .line .now in
@@ -115,12 +76,6 @@ part-read-budget-start : tie.Need-part-read-budget-start
 part-read-budget-start c =
     let line = c .before .before .before .before .before .before .before .before .before .before .before .before .before .before .before .before .before .before .before .before .before .args .line .now in
     omega (arith, begins-length runWord line (sym (c .before .begins-with .ensures) ∙ c .if7 .taken))
-
-part-read-budget-end : tie.Need-part-read-budget-end
-part-read-budget-end c = search needs
-
-read-budget-requires : tie.Need-read-budget-requires
-read-budget-requires c κs = search needs
 
 returns-7 : tie.Need-returns-7
 unfolding commandOf
@@ -152,28 +107,21 @@ pub read-command-spec : {M : Type 1} → statement M
 read-command-spec =
     tie.close
     (tie.spec
-    line-ends-requires
+    (λ c κs. search needs)
     returns
-    slice-aggregate-is-word
-    is-word-requires
+    (λ c. search needs) (λ c κs. search needs)
     returns-2
-    slice-aggregate-is-word-2
-    is-word-requires-2
+    (λ c. search needs) (λ c κs. search needs)
     returns-3
-    slice-aggregate-is-word-3
-    is-word-requires-3
+    (λ c. search needs) (λ c κs. search needs)
     returns-4
-    slice-aggregate-is-word-4
-    is-word-requires-4
+    (λ c. search needs) (λ c κs. search needs)
     returns-5
-    slice-aggregate-is-word-5
-    is-word-requires-5
+    (λ c. search needs) (λ c κs. search needs)
     returns-6
-    slice-aggregate-begins-with
-    begins-with-requires
+    (λ c. search needs) (λ c κs. search needs)
     sub-read-budget
     part-read-budget-start
-    part-read-budget-end
-    read-budget-requires
+    (λ c. search needs) (λ c κs. search needs)
     returns-7
     returns-8)

@@ -9,9 +9,6 @@ returns : tie.Need-returns
 unfolding runOf
 returns c = rw (lt-leb _ 4294967295 (c .if1 .taken))
 
-cast-t4 : tie.Need-cast-t4
-cast-t4 c = search needs
-
 returns-2 : tie.Need-returns-2
 unfolding runOf
 returns-2 c = rw (le-leb _ 4294967295 (c .before .if1 .left), c .if2 .taken)
@@ -21,4 +18,4 @@ unfolding runOf
 returns-3 c = rw (le-leb _ 4294967295 (c .before .if1 .left), c .if2 .left)
 
 pub run-of-spec : {M : Type 1} → statement M
-run-of-spec = tie.close (tie.spec returns cast-t4 returns-2 returns-3)
+run-of-spec = tie.close (tie.spec returns (λ c. search needs) returns-2 returns-3)

@@ -21,18 +21,6 @@ loop-holds c =
     let a = c .before .before .args in
     (omega arith, omega arith, starts (a .text .now) (a .calls .now) (c .before .before .pre))
 
-sub-read-line : tie.Need-sub-read-line Inv-loop μ-loop
-sub-read-line c = search needs
-
-part-read-line-start : tie.Need-part-read-line-start Inv-loop μ-loop
-part-read-line-start c = search needs
-
-part-read-line-end : tie.Need-part-read-line-end Inv-loop μ-loop
-part-read-line-end c = search needs
-
-read-line-requires : tie.Need-read-line-requires Inv-loop μ-loop
-read-line-requires c κs = search needs
-
 add-end : tie.Need-add-end Inv-loop μ-loop
 add-end c =
     let l = c .before .before .before .before .loop in
@@ -61,12 +49,6 @@ part-read-command-end c =
     let read = c .before .read-line in
     omega (arith, line-within text (l .at) (c .before .before .before .loop-test .taken) (read .ensures .1))
 
-read-command-requires : tie.Need-read-command-requires Inv-loop μ-loop
-read-command-requires c κs = search needs
-
-meaning-of-requires : tie.Need-meaning-of-requires Inv-loop μ-loop
-meaning-of-requires c κs = search needs
-
 put-call-requires : tie.Need-put-call-requires Inv-loop μ-loop
 put-call-requires c κs =
     let l = c .before .before .before .before .before .before .before .before .loop in
@@ -83,9 +65,6 @@ add-at c =
     let read = c .before .before .before .before .before .before .before .before .read-line in
     let t = turn text (l .at) (c .before .before .before .before .before .before .before .before .before .before .loop-test .taken) (read .ensures .1) (c .before .before .before .before .before .read-command .ensures) in
     omega (arith, t .within)
-
-place-after-requires : tie.Need-place-after-requires Inv-loop μ-loop
-place-after-requires c κs = search needs
 
 add-number : tie.Need-add-number Inv-loop μ-loop
 add-number c =
@@ -129,19 +108,15 @@ write-calls-spec =
     Inv-loop
     μ-loop
     loop-holds
-    sub-read-line
-    part-read-line-start
-    part-read-line-end
-    read-line-requires
+    (λ c. search needs) (λ c. search needs) (λ c. search needs) (λ c κs. search needs)
     add-end
     sub-read-command
     part-read-command-start
     part-read-command-end
-    read-command-requires
-    meaning-of-requires
+    (λ c κs. search needs) (λ c κs. search needs)
     put-call-requires
     add-at
-    place-after-requires
+    (λ c κs. search needs)
     add-number
     loop-less
     loop-again

@@ -7,26 +7,14 @@ use Rattle.table.proofs.Table.{place-O, place-B, place-B-undefined, pla
 use Rattle.table.proofs.place_of.Statement.{statement}
 use Rattle.table.proofs.place_of.Tie as tie
 
-field-o-requires : tie.Need-field-o-requires
-field-o-requires c κs = search needs
-
-field-b-requires : tie.Need-field-b-requires
-field-b-requires c κs = search needs
-
 returns : tie.Need-returns
 returns c = c .before .before .field-o .ensures ∙ sym (place-O (c .before .before .before .args .word) (omega arith))
-
-add-result : tie.Need-add-result
-add-result c = search needs
 
 returns-2 : tie.Need-returns-2
 returns-2 c = ap (λ (b : ℕ). 11 + b) (c .before .before .before .field-b .ensures) ∙ sym (place-B (c .before .before .before .before .before .args .word) (omega arith) (omega arith))
 
 returns-3 : tie.Need-returns-3
 returns-3 c = sym (place-B-undefined (c .before .before .before .before .before .args .word) (omega arith) (omega arith))
-
-add-result-2 : tie.Need-add-result-2
-add-result-2 c = search needs
 
 returns-4 : tie.Need-returns-4
 returns-4 c = ap (λ (b : ℕ). 22 + b) (c .before .before .before .before .field-b .ensures) ∙ sym (place-C (c .before .before .before .before .before .before .args .word) (omega arith) (omega arith))
@@ -36,12 +24,6 @@ returns-5 c = sym (place-C-undefined (c .before .before .before .before .before 
 
 returns-6 : tie.Need-returns-6
 returns-6 c = sym (place-D (c .before .before .before .before .before .before .args .word) (omega arith))
-
-cast-result : tie.Need-cast-result
-cast-result c = search needs
-
-add-result-3 : tie.Need-add-result-3
-add-result-3 c = search needs
 
 returns-7 : tie.Need-returns-7
 returns-7 c = sym (place-E (c .before .before .before .before .before .before .before .args .word) (omega arith))
@@ -53,17 +35,15 @@ pub place-of-spec : {M : Type 1} → statement M
 place-of-spec =
     tie.close
     (tie.spec
-    field-o-requires
-    field-b-requires
+    (λ c κs. search needs) (λ c κs. search needs)
     returns
-    add-result
+    (λ c. search needs)
     returns-2
     returns-3
-    add-result-2
+    (λ c. search needs)
     returns-4
     returns-5
     returns-6
-    cast-result
-    add-result-3
+    (λ c. search needs) (λ c. search needs)
     returns-7
     returns-8)

@@ -5,32 +5,17 @@ use Rattle.table.proofs.Table.{word-O, word-B, word-C, word-D, word-E, 
 use Rattle.table.proofs.word_of.Statement.{statement}
 use Rattle.table.proofs.word_of.Tie as tie
 
-mul-result : tie.Need-mul-result
-mul-result c = search needs
-
 returns : tie.Need-returns
 returns c = sym (word-O _ (c .if1 .taken))
 
-add-result : tie.Need-add-result
-add-result c = search needs
-
 returns-2 : tie.Need-returns-2
 returns-2 c = sym (word-B _ (c .before .if1 .left) (c .if2 .taken))
-
-add-result-2 : tie.Need-add-result-2
-add-result-2 c = search needs
 
 returns-3 : tie.Need-returns-3
 returns-3 c = sym (word-C _ (c .before .if2 .left) (c .if3 .taken))
 
 returns-4 : tie.Need-returns-4
 returns-4 c = sym (word-D _ (c .before .if3 .left) (c .if4 .taken))
-
-mul-result-2 : tie.Need-mul-result-2
-mul-result-2 c = search needs
-
-add-result-3 : tie.Need-add-result-3
-add-result-3 c = search needs
 
 returns-5 : tie.Need-returns-5
 returns-5 c = sym (word-E _ (c .before .if4 .left) (c .if5 .taken))
@@ -42,14 +27,13 @@ pub word-of-spec : {M : Type 1} → statement M
 word-of-spec =
     tie.close
     (tie.spec
-    mul-result
+    (λ c. search needs)
     returns
-    add-result
+    (λ c. search needs)
     returns-2
-    add-result-2
+    (λ c. search needs)
     returns-3
     returns-4
-    mul-result-2
-    add-result-3
+    (λ c. search needs) (λ c. search needs)
     returns-5
     returns-6)

@@ -37,18 +37,6 @@ loop-holds c =
       place = zero-add (4 * a .count);
     }
 
-read-requires : tie.Need-read-requires Inv-loop μ-loop
-read-requires c κs = search needs
-
-step-requires : tie.Need-step-requires Inv-loop μ-loop
-step-requires c κs = search needs
-
-cycles-of-requires : tie.Need-cycles-of-requires Inv-loop μ-loop
-cycles-of-requires c κs = search needs
-
-flags-number-requires : tie.Need-flags-number-requires Inv-loop μ-loop
-flags-number-requires c κs = search needs
-
 put-row-requires : tie.Need-put-row-requires Inv-loop μ-loop
 put-row-requires c κs =
     let test = c .before .before .before .before .before .before .before .before .before .before .before in
@@ -57,12 +45,6 @@ put-row-requires c κs =
 
 add-at : tie.Need-add-at Inv-loop μ-loop
 add-at c = omega (arith, c .before .before .before .before .before .before .before .before .before .before .before .before .before .before .before .loop .inv .place, c .before .before .before .before .before .before .before .before .before .before .before .before .before .before .loop-test .taken)
-
-sub-left : tie.Need-sub-left Inv-loop μ-loop
-sub-left c = search needs
-
-loop-less : tie.Need-loop-less Inv-loop μ-loop
-loop-less c = search needs
 
 loop-again : tie.Need-loop-again Inv-loop μ-loop
 loop-again c =
@@ -82,12 +64,6 @@ loop-again c =
       place = omega (arith, l .inv .place, test .loop-test .taken);
     }
 
-same-length : tie.Need-same-length Inv-loop μ-loop
-same-length c = search needs
-
-same-length-2 : tie.Need-same-length-2 Inv-loop μ-loop
-same-length-2 c = search needs
-
 returns : tie.Need-returns Inv-loop μ-loop
 returns c =
     let l = c .before .loop in
@@ -100,15 +76,10 @@ put-rows-spec =
     Inv-loop
     μ-loop
     loop-holds
-    read-requires
-    step-requires
-    cycles-of-requires
-    flags-number-requires
+    (λ c κs. search needs) (λ c κs. search needs) (λ c κs. search needs) (λ c κs. search needs)
     put-row-requires
     add-at
-    sub-left
-    loop-less
+    (λ c. search needs) (λ c. search needs)
     loop-again
-    same-length
-    same-length-2
+    (λ c. search needs) (λ c. search needs)
     returns)

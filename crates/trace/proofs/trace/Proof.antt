@@ -10,30 +10,6 @@ returns c =
     let a = c .before .before .before .args in
     long-trace (a .listing .now) (a .rows .now) (c .if1 .taken)
 
-fresh-requires : tie.Need-fresh-requires
-fresh-requires c κs = search needs
-
-slice-aggregate-load : tie.Need-slice-aggregate-load
-slice-aggregate-load c = search needs
-
-load-requires : tie.Need-load-requires
-load-requires c κs = search needs
-
-enum-told : tie.Need-enum-told
-enum-told c = search needs
-
-trace-memory-requires : tie.Need-trace-memory-requires
-trace-memory-requires c κs = search needs
-
-enum-known-answer : tie.Need-enum-known-answer
-enum-known-answer c = search needs
-
-enum-told-2 : tie.Need-enum-told-2
-enum-told-2 c = search needs
-
-same-length : tie.Need-same-length
-same-length c = search needs
-
 returns-2 : tie.Need-returns-2
 returns-2 c =
     let a = c .before .before .before .before .before .before .before .before .before .before .before .before .before .args in
@@ -64,14 +40,8 @@ trace-spec =
     tie.close
     (tie.spec
     returns
-    fresh-requires
-    slice-aggregate-load
-    load-requires
-    enum-told
-    trace-memory-requires
-    enum-known-answer
-    enum-told-2
-    same-length
+    (λ c κs. search needs) (λ c. search needs) (λ c κs. search needs) (λ c. search needs) (λ c κs. search needs)
+    (λ c. search needs) (λ c. search needs) (λ c. search needs)
     returns-2
     returns-3
     returns-4)

@@ -4,21 +4,6 @@ use Rattle.trace.proofs.Findings.{run-not-refused, room-lacks, rows-put
 use Rattle.trace.proofs.trace_memory.Statement.{statement}
 use Rattle.trace.proofs.trace_memory.Tie as tie
 
-fresh-requires : tie.Need-fresh-requires
-fresh-requires c κs = search needs
-
-slice-aggregate-run : tie.Need-slice-aggregate-run
-slice-aggregate-run c = search needs
-
-run-requires : tie.Need-run-requires
-run-requires c κs = search needs
-
-enum-known-answer : tie.Need-enum-known-answer
-enum-known-answer c = search needs
-
-enum-told : tie.Need-enum-told
-enum-told c = search needs
-
 returns : tie.Need-returns
 returns c =
     let a = c .before .before .before .before .before .before .before .args in
@@ -27,12 +12,6 @@ returns c =
     let told = c .enum-told .given in
     absurd (run-not-refused (a .memory) (a .rows .now) (ran .result) (fresh .result) _ (ran .ensures) (fresh .ensures) _ (search needs) (told .1))
 
-cast-if1 : tie.Need-cast-if1
-cast-if1 c = search needs
-
-mul-if1 : tie.Need-mul-if1
-mul-if1 c = search needs
-
 returns-2 : tie.Need-returns-2
 returns-2 c =
     let a = c .before .before .before .before .before .before .before .before .before .args in
@@ -40,15 +19,6 @@ returns-2 c =
     let fresh = c .before .before .before .before .before .before .before .fresh in
     let told = c .before .before .answer .given in
     room-lacks (a .memory) (a .rows .now) (ran .result) (fresh .result) _ (ran .ensures) (fresh .ensures) _ _ _ (told .1) (c .if1 .taken)
-
-slice-aggregate-put-rows : tie.Need-slice-aggregate-put-rows
-slice-aggregate-put-rows c = search needs
-
-put-rows-requires : tie.Need-put-rows-requires
-put-rows-requires c κs = search needs
-
-same-length : tie.Need-same-length
-same-length c = search needs
 
 returns-3 : tie.Need-returns-3
 returns-3 c =
@@ -63,16 +33,9 @@ pub trace-memory-spec : {M : Type 1} → statement M
 trace-memory-spec =
     tie.close
     (tie.spec
-    fresh-requires
-    slice-aggregate-run
-    run-requires
-    enum-known-answer
-    enum-told
+    (λ c κs. search needs) (λ c. search needs) (λ c κs. search needs) (λ c. search needs) (λ c. search needs)
     returns
-    cast-if1
-    mul-if1
+    (λ c. search needs) (λ c. search needs)
     returns-2
-    slice-aggregate-put-rows
-    put-rows-requires
-    same-length
+    (λ c. search needs) (λ c κs. search needs) (λ c. search needs)
     returns-3)

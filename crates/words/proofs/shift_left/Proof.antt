@@ -4,12 +4,6 @@ use borrow.Author.Needs.{needs}
 use Rattle.words.proofs.shift_left.Statement.{statement}
 use Rattle.words.proofs.shift_left.Tie as tie
 
-mul-moved : tie.Need-mul-moved
-mul-moved c = search needs
-
-add-result : tie.Need-add-result
-add-result c = search needs
-
 returns : tie.Need-returns
 returns c = rw (c .if1 .taken) (omega arith)
 
@@ -17,4 +11,4 @@ returns-2 : tie.Need-returns-2
 returns-2 c = rw (c .if1 .left) (omega arith)
 
 pub shift-left-spec : {M : Type 1} → statement M
-shift-left-spec = tie.close (tie.spec mul-moved add-result returns returns-2)
+shift-left-spec = tie.close (tie.spec (λ c. search needs) (λ c. search needs) returns returns-2)

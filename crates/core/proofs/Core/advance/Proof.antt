@@ -6,22 +6,10 @@ use borrow.Author.Needs.{needs}
 use Rattle.core.proofs.Core.advance.Statement.{statement}
 use Rattle.core.proofs.Core.advance.Tie as tie
 
-instructions-requires : tie.Need-instructions-requires
-instructions-requires c κs = search needs
-
-same-length : tie.Need-same-length
-same-length c = search needs
-
 returns : tie.Need-returns
 returns c =
     let t = c .before .before .before .before in
     c .before .before .instructions .ensures ∙ sym (rw (eq-eqb _ 1 (t .before .if1 .taken), le-leb 4 _ (t .if2 .taken)))
-
-one-cycle-requires : tie.Need-one-cycle-requires
-one-cycle-requires c κs = search needs
-
-same-length-2 : tie.Need-same-length-2
-same-length-2 c = search needs
 
 returns-2 : tie.Need-returns-2
 returns-2 c =
@@ -34,4 +22,4 @@ returns-2 c =
 pub advance-spec : {M : Type 1} → statement M
 advance-spec =
     tie.close
-    (tie.spec instructions-requires same-length returns one-cycle-requires same-length-2 returns-2)
+    (tie.spec (λ c κs. search needs) (λ c. search needs) returns (λ c κs. search needs) (λ c. search needs) returns-2)

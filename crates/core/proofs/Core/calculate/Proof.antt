@@ -7,15 +7,6 @@ use Rattle.alu.specs.declared.Outcome.{Outcome}
 use Rattle.core.proofs.Core.calculate.Statement.{statement}
 use Rattle.core.proofs.Core.calculate.Tie as tie
 
-reach-requires : tie.Need-reach-requires
-reach-requires c κs = search needs
-
-calculate-requires : tie.Need-calculate-requires
-calculate-requires c κs = search needs
-
-with-result-requires : tie.Need-with-result-requires
-with-result-requires c κs = search needs
-
 returns : tie.Need-returns
 returns c =
     let self = c .before .before .before .args .self in
@@ -27,4 +18,4 @@ returns c =
 
 pub calculate-spec : {M : Type 1} → statement M
 calculate-spec =
-    tie.close (tie.spec reach-requires calculate-requires with-result-requires returns)
+    tie.close (tie.spec (λ c κs. search needs) (λ c κs. search needs) (λ c κs. search needs) returns)

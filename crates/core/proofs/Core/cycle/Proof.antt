@@ -11,9 +11,6 @@ use Rattle.core.proofs.Cycles.{first-cycle, later}
 use Rattle.core.proofs.Core.cycle.Statement.{statement}
 use Rattle.core.proofs.Core.cycle.Tie as tie
 
-fetch-requires : tie.Need-fetch-requires
-fetch-requires c κs = search needs
-
 turn-requires : tie.Need-turn-requires
 turn-requires c κs =
     let clock = ap (λ (core : Core). core .clock .0) (c .fetch .ensures) in
@@ -27,12 +24,6 @@ returns c =
     ∙ ap (λ (core : Core). turn false core Nothing) (c .before .fetch .ensures)
     ∙ sym (first-cycle (before .memory .now) (before .self) (c .before .before .if1 .taken))
 
-kind-of-requires : tie.Need-kind-of-requires
-kind-of-requires c κs = search needs
-
-later-cycle-requires : tie.Need-later-cycle-requires
-later-cycle-requires c κs = search needs
-
 returns-2 : tie.Need-returns-2
 returns-2 c =
     let before = c .before .before .before .before .before .args in
@@ -43,4 +34,4 @@ returns-2 c =
 pub cycle-spec : {M : Type 1} → statement M
 cycle-spec =
     tie.close
-    (tie.spec fetch-requires turn-requires returns kind-of-requires later-cycle-requires returns-2)
+    (tie.spec (λ c κs. search needs) turn-requires returns (λ c κs. search needs) (λ c κs. search needs) returns-2)

@@ -31,9 +31,6 @@ Inv-loop b memory₀ regs₀ state₀ count₀ start memory regs state count =
 abbrev μ-loop : tie.MeasureT-loop
 μ-loop b memory₀ regs₀ state₀ count₀ start memory regs state count = start + b - state .clock .0
 
-rest-requires : tie.Need-rest-requires Inv-loop μ-loop
-rest-requires c κs = search needs
-
 loop-holds : tie.Need-loop-holds Inv-loop μ-loop
 loop-holds c =
     let a = c .before .before .before .args in
@@ -122,9 +119,6 @@ loop-again c =
 sub-t15 : tie.Need-sub-t15 Inv-loop μ-loop
 sub-t15 c = omega (arith, c .before .before .before .loop .inv .low)
 
-joined-requires : tie.Need-joined-requires Inv-loop μ-loop
-joined-requires c κs = search needs
-
 same-length : tie.Need-same-length Inv-loop μ-loop
 same-length c = c .before .before .before .before .loop .inv .size
 
@@ -150,7 +144,7 @@ instructions-spec =
     (tie.spec
     Inv-loop
     μ-loop
-    rest-requires
+    (λ c κs. search needs)
     loop-holds
     add-goes-on
     goes-on-requires
@@ -160,6 +154,6 @@ instructions-spec =
     loop-less
     loop-again
     sub-t15
-    joined-requires
+    (λ c κs. search needs)
     same-length
     returns)

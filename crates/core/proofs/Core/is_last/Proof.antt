@@ -6,14 +6,8 @@ use lib.Dec.{leb}
 use Rattle.core.proofs.Core.is_last.Statement.{statement}
 use Rattle.core.proofs.Core.is_last.Tie as tie
 
-cost-requires : tie.Need-cost-requires
-cost-requires c κs = search needs
-
-cast-result : tie.Need-cast-result
-cast-result c = search needs
-
 returns : tie.Need-returns
 returns c = ap (λ (n : ℕ). leb n (c .before .before .before .before .args .self .due)) (c .before .before .cost .ensures)
 
 pub is-last-spec : {M : Type 1} → statement M
-is-last-spec = tie.close (tie.spec cost-requires cast-result returns)
+is-last-spec = tie.close (tie.spec (λ c κs. search needs) (λ c. search needs) returns)

@@ -7,30 +7,6 @@ use borrow.Author.Needs.{needs}
 use Rattle.core.proofs.Core.latch.Statement.{statement}
 use Rattle.core.proofs.Core.latch.Tie as tie
 
-field-t-requires : tie.Need-field-t-requires
-field-t-requires c κs = search needs
-
-field-a-requires : tie.Need-field-a-requires
-field-a-requires c κs = search needs
-
-field-b-requires : tie.Need-field-b-requires
-field-b-requires c κs = search needs
-
-slice-aggregate-register-of : tie.Need-slice-aggregate-register-of
-slice-aggregate-register-of c = search needs
-
-register-of-requires : tie.Need-register-of-requires
-register-of-requires c κs = search needs
-
-slice-aggregate-register-of-2 : tie.Need-slice-aggregate-register-of-2
-slice-aggregate-register-of-2 c = search needs
-
-second-register-requires : tie.Need-second-register-requires
-second-register-requires c κs = search needs
-
-register-of-requires-2 : tie.Need-register-of-requires-2
-register-of-requires-2 c κs = search needs
-
 returns : tie.Need-returns
 returns c =
     let l = c .before .before .before .before .before in
@@ -49,12 +25,6 @@ pub latch-spec : {M : Type 1} → statement M
 latch-spec =
     tie.close
     (tie.spec
-    field-t-requires
-    field-a-requires
-    field-b-requires
-    slice-aggregate-register-of
-    register-of-requires
-    slice-aggregate-register-of-2
-    second-register-requires
-    register-of-requires-2
+    (λ c κs. search needs) (λ c κs. search needs) (λ c κs. search needs) (λ c. search needs) (λ c κs. search needs)
+    (λ c. search needs) (λ c κs. search needs) (λ c κs. search needs)
     returns)

@@ -11,12 +11,6 @@ use Rattle.core.proofs.Cycles.{second-cycle, third-cycle, fourth-cycle,
 use Rattle.core.proofs.Core.later_cycle.Statement.{statement}
 use Rattle.core.proofs.Core.later_cycle.Tie as tie
 
-is-last-requires : tie.Need-is-last-requires
-is-last-requires c κs = search needs
-
-stop-or-latch-requires : tie.Need-stop-or-latch-requires
-stop-or-latch-requires c κs = search needs
-
 turn-requires : tie.Need-turn-requires
 turn-requires c κs =
     let before = c .before .before .before .before .args in
@@ -34,9 +28,6 @@ returns c =
     ∙ (λ j. turn (last j) (core j) Nothing)
     ∙ sym (second-cycle (before .memory .now) (before .self) (before .kind) (c .before .before .if1 .taken))
 
-calculate-requires : tie.Need-calculate-requires
-calculate-requires c κs = search needs
-
 turn-requires-2 : tie.Need-turn-requires-2
 turn-requires-2 c κs =
     let clock = ap (λ (core : Core). core .clock .0) (c .calculate .ensures) in
@@ -51,15 +42,6 @@ returns-2 c =
     c .turn2 .ensures
     ∙ (λ j. turn (last j) (core j) Nothing)
     ∙ sym (third-cycle (before .memory .now) (before .self) (before .kind) (c .before .before .if2 .taken))
-
-reach-requires : tie.Need-reach-requires
-reach-requires c κs = search needs
-
-write-back-requires : tie.Need-write-back-requires
-write-back-requires c κs = search needs
-
-with-effect-requires : tie.Need-with-effect-requires
-with-effect-requires c κs = search needs
 
 turn-requires-3 : tie.Need-turn-requires-3
 turn-requires-3 c κs =
@@ -90,16 +72,13 @@ pub later-cycle-spec : {M : Type 1} → statement M
 later-cycle-spec =
     tie.close
     (tie.spec
-    is-last-requires
-    stop-or-latch-requires
+    (λ c κs. search needs) (λ c κs. search needs)
     turn-requires
     returns
-    calculate-requires
+    (λ c κs. search needs)
     turn-requires-2
     returns-2
-    reach-requires
-    write-back-requires
-    with-effect-requires
+    (λ c κs. search needs) (λ c κs. search needs) (λ c κs. search needs)
     turn-requires-3
     returns-3
     returns-4)

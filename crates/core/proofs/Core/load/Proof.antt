@@ -10,15 +10,6 @@ use Rattle.core.proofs.Replies.{refused-reply}
 use Rattle.core.proofs.Core.load.Statement.{statement}
 use Rattle.core.proofs.Core.load.Tie as tie
 
-one-due-requires : tie.Need-one-due-requires
-one-due-requires c κs = search needs
-
-load-verdict-requires : tie.Need-load-verdict-requires
-load-verdict-requires c κs = search needs
-
-enum-known-verdict : tie.Need-enum-known-verdict
-enum-known-verdict c = search needs
-
 returns : tie.Need-returns
 unfolding load
 returns c =
@@ -27,18 +18,6 @@ returns c =
     let number = c .before .before .before .load-verdict .ensures ∙ ap (loadNumber L) (c .before .before .before .before .one-due .ensures) in
     refused-reply (loadNumber L _) (c .before .verdict .given .0 .0) (a .self) (a .memory .now)
     (loadedReply (a .text .now) (a .self) (a .memory .now)) (sym (ap verdictNumber (c .before .verdict .given .1)) ∙ number)
-
-enum-told : tie.Need-enum-told
-enum-told c = search needs
-
-store-requires : tie.Need-store-requires
-store-requires c κs = search needs
-
-load-answer-requires : tie.Need-load-answer-requires
-load-answer-requires c κs = search needs
-
-same-length : tie.Need-same-length
-same-length c = search needs
 
 returns-2 : tie.Need-returns-2
 unfolding load
@@ -58,12 +37,7 @@ pub load-spec : {M : Type 1} → statement M
 load-spec =
     tie.close
     (tie.spec
-    one-due-requires
-    load-verdict-requires
-    enum-known-verdict
+    (λ c κs. search needs) (λ c κs. search needs) (λ c. search needs)
     returns
-    enum-told
-    store-requires
-    load-answer-requires
-    same-length
+    (λ c. search needs) (λ c κs. search needs) (λ c κs. search needs) (λ c. search needs)
     returns-2)

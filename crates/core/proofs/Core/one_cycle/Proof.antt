@@ -9,18 +9,6 @@ use borrow.Author.Needs.{needs}
 use Rattle.core.proofs.Core.one_cycle.Statement.{statement}
 use Rattle.core.proofs.Core.one_cycle.Tie as tie
 
-cycle-requires : tie.Need-cycle-requires
-cycle-requires c κs = search needs
-
-apply-requires : tie.Need-apply-requires
-apply-requires c κs = search needs
-
-count-of-requires : tie.Need-count-of-requires
-count-of-requires c κs = search needs
-
-same-length : tie.Need-same-length
-same-length c = search needs
-
 returns : tie.Need-returns
 unfolding advanced
 returns c =
@@ -33,4 +21,4 @@ returns c =
 
 pub one-cycle-spec : {M : Type 1} → statement M
 one-cycle-spec =
-    tie.close (tie.spec cycle-requires apply-requires count-of-requires same-length returns)
+    tie.close (tie.spec (λ c κs. search needs) (λ c κs. search needs) (λ c κs. search needs) (λ c. search needs) returns)

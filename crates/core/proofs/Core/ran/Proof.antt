@@ -6,12 +6,6 @@ use Rattle.core.specs.declared.End.{End}
 use Rattle.core.proofs.Core.ran.Statement.{statement}
 use Rattle.core.proofs.Core.ran.Tie as tie
 
-one-due-requires : tie.Need-one-due-requires
-one-due-requires c κs = search needs
-
-end-of-requires : tie.Need-end-of-requires
-end-of-requires c κs = search needs
-
 returns : tie.Need-returns
 returns c =
     let a = c .before .before .args in
@@ -21,6 +15,5 @@ pub ran-spec : {M : Type 1} → statement M
 ran-spec =
     tie.close
     (tie.spec
-    one-due-requires
-    end-of-requires
+    (λ c κs. search needs) (λ c κs. search needs)
     returns)

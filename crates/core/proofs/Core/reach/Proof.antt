@@ -6,15 +6,6 @@ use borrow.Author.Needs.{needs}
 use Rattle.core.proofs.Core.reach.Statement.{statement}
 use Rattle.core.proofs.Core.reach.Tie as tie
 
-slice-aggregate-register-of : tie.Need-slice-aggregate-register-of
-slice-aggregate-register-of c = search needs
-
-field-t-requires : tie.Need-field-t-requires
-field-t-requires c κs = search needs
-
-register-of-requires : tie.Need-register-of-requires
-register-of-requires c κs = search needs
-
 returns : tie.Need-returns
 returns c =
     let self = c .before .before .before .before .before .args .self in
@@ -24,4 +15,4 @@ returns c =
 
 pub reach-spec : {M : Type 1} → statement M
 reach-spec =
-    tie.close (tie.spec slice-aggregate-register-of field-t-requires register-of-requires returns)
+    tie.close (tie.spec (λ c. search needs) (λ c κs. search needs) (λ c κs. search needs) returns)

@@ -6,9 +6,6 @@ use Rattle.core.specs.Calls.{done, reset}
 use Rattle.core.proofs.Core.reset.Statement.{statement}
 use Rattle.core.proofs.Core.reset.Tie as tie
 
-fresh-requires : tie.Need-fresh-requires
-fresh-requires c κs = search needs
-
 returns : tie.Need-returns
 unfolding reset
 returns c = λ j. λ (memory : List ℕ). record { answer = done; core = c .fresh .ensures j; memory = memory }
@@ -17,5 +14,5 @@ pub reset-spec : {M : Type 1} → statement M
 reset-spec =
     tie.close
     (tie.spec
-    fresh-requires
+    (λ c κs. search needs)
     returns)

@@ -37,18 +37,6 @@ Inv-loop self₀ b memory₀ used₀ finished₀ self memory used finished =
 abbrev μ-loop : tie.MeasureT-loop
 μ-loop self₀ b memory₀ used₀ finished₀ self memory used finished = b - used .0
 
-due-in-range-requires : tie.Need-due-in-range-requires Inv-loop μ-loop
-due-in-range-requires c κs = search needs
-
-run-verdict-requires : tie.Need-run-verdict-requires Inv-loop μ-loop
-run-verdict-requires c κs = search needs
-
-enum-known-verdict : tie.Need-enum-known-verdict Inv-loop μ-loop
-enum-known-verdict c = search needs
-
-run-refused-requires : tie.Need-run-refused-requires Inv-loop μ-loop
-run-refused-requires c κs = search needs
-
 returns : tie.Need-returns Inv-loop μ-loop
 unfolding run
 returns c =
@@ -60,9 +48,6 @@ returns c =
     let why = c .before .before .verdict .given in
     (λ j. record { answer = refused .1 j; core = refused .0 j; memory = a .memory .now })
     ∙ refused-reply _ (why .0 .0) (a .self) (a .memory .now) _ (sym (ap verdictNumber (why .1)) ∙ number)
-
-enum-told : tie.Need-enum-told Inv-loop μ-loop
-enum-told c = search needs
 
 loop-holds : tie.Need-loop-holds Inv-loop μ-loop
 loop-holds c =
@@ -82,12 +67,6 @@ loop-holds c =
       low = due .0;
       high = due .1;
     }
-
-is-going-requires : tie.Need-is-going-requires Inv-loop μ-loop
-is-going-requires c κs = search needs
-
-ran-requires : tie.Need-ran-requires Inv-loop μ-loop
-ran-requires c κs = search needs
 
 same-length : tie.Need-same-length Inv-loop μ-loop
 same-length c = c .before .before .before .before .before .loop .inv .size
@@ -160,9 +139,6 @@ loop-again c =
       high = on .high;
     }
 
-ran-requires-2 : tie.Need-ran-requires-2 Inv-loop μ-loop
-ran-requires-2 c κs = search needs
-
 same-length-2 : tie.Need-same-length-2 Inv-loop μ-loop
 same-length-2 c = c .before .before .before .loop .inv .size
 
@@ -179,15 +155,11 @@ run-spec =
     (tie.spec
     Inv-loop
     μ-loop
-    due-in-range-requires
-    run-verdict-requires
-    enum-known-verdict
-    run-refused-requires
+    (λ c κs. search needs) (λ c κs. search needs) (λ c. search needs) (λ c κs. search needs)
     returns
-    enum-told
+    (λ c. search needs)
     loop-holds
-    is-going-requires
-    ran-requires
+    (λ c κs. search needs) (λ c κs. search needs)
     same-length
     returns-2
     sub-advance
@@ -196,6 +168,6 @@ run-spec =
     add-finished
     loop-less
     loop-again
-    ran-requires-2
+    (λ c κs. search needs)
     same-length-2
     returns-3)

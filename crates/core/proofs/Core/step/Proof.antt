@@ -15,18 +15,6 @@ use Rattle.core.proofs.AtOnce.{one-of-four, as-step}
 use Rattle.core.proofs.Core.step.Statement.{statement}
 use Rattle.core.proofs.Core.step.Tie as tie
 
-one-due-requires : tie.Need-one-due-requires
-one-due-requires c κs = search needs
-
-run-verdict-requires : tie.Need-run-verdict-requires
-run-verdict-requires c κs = search needs
-
-enum-known-verdict : tie.Need-enum-known-verdict
-enum-known-verdict c = search needs
-
-run-refused-requires : tie.Need-run-refused-requires
-run-refused-requires c κs = search needs
-
 returns : tie.Need-returns
 unfolding step stepNumber
 returns c =
@@ -39,9 +27,6 @@ returns c =
     (λ j. record { answer = refused .1 j; core = refused .0 j; memory = a .memory .now })
     ∙ refused-reply _ (why .0 .0) (a .self) (a .memory .now) _ (sym (ap verdictNumber (why .1)) ∙ number)
 
-enum-told : tie.Need-enum-told
-enum-told c = search needs
-
 instructions-requires : tie.Need-instructions-requires
 instructions-requires c κs =
     let a = c .before .before .before .before .before .before .before .args in
@@ -50,15 +35,6 @@ instructions-requires c κs =
     let number = verdict .run-verdict .ensures ∙ ap at (verdict .before .one-due .ensures) in
     let ready = ready _ _ _ _ _ (sym number ∙ ap verdictNumber (c .before .enum-told .given .1)) in
     (eqb-true (a .self .due) 1 (ready .due), ready .room)
-
-without-hidden-requires : tie.Need-without-hidden-requires
-without-hidden-requires c κs = search needs
-
-ran-requires : tie.Need-ran-requires
-ran-requires c κs = search needs
-
-same-length : tie.Need-same-length
-same-length c = search needs
 
 returns-2 : tie.Need-returns-2
 returns-2 c =
@@ -81,14 +57,9 @@ pub step-spec : {M : Type 1} → statement M
 step-spec =
     tie.close
     (tie.spec
-    one-due-requires
-    run-verdict-requires
-    enum-known-verdict
-    run-refused-requires
+    (λ c κs. search needs) (λ c κs. search needs) (λ c. search needs) (λ c κs. search needs)
     returns
-    enum-told
+    (λ c. search needs)
     instructions-requires
-    without-hidden-requires
-    ran-requires
-    same-length
+    (λ c κs. search needs) (λ c κs. search needs) (λ c. search needs)
     returns-2)

@@ -6,27 +6,6 @@ use Rattle.effects.specs.declared.Stop.{Stop}
 use Rattle.core.proofs.Core.stop_or_latch.Statement.{statement}
 use Rattle.core.proofs.Core.stop_or_latch.Tie as tie
 
-stop-of-requires : tie.Need-stop-of-requires
-stop-of-requires c κs = search needs
-
-enum-told : tie.Need-enum-told
-enum-told c = search needs
-
-latch-requires : tie.Need-latch-requires
-latch-requires c κs = search needs
-
-enum-told-2 : tie.Need-enum-told-2
-enum-told-2 c = search needs
-
-with-stop-requires : tie.Need-with-stop-requires
-with-stop-requires c κs = search needs
-
-enum-told-3 : tie.Need-enum-told-3
-enum-told-3 c = search needs
-
-with-stop-requires-2 : tie.Need-with-stop-requires-2
-with-stop-requires-2 c κs = search needs
-
 returns : tie.Need-returns
 returns c =
     let before = c .before .before .before .before .args in
@@ -49,13 +28,8 @@ pub stop-or-latch-spec : {M : Type 1} → statement M
 stop-or-latch-spec =
     tie.close
     (tie.spec
-    stop-of-requires
-    enum-told
-    latch-requires
-    enum-told-2
-    with-stop-requires
-    enum-told-3
-    with-stop-requires-2
+    (λ c κs. search needs) (λ c. search needs) (λ c κs. search needs) (λ c. search needs) (λ c κs. search needs)
+    (λ c. search needs) (λ c κs. search needs)
     returns
     returns-2
     returns-3)

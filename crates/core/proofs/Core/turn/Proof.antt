@@ -3,11 +3,8 @@ use borrow.Author.Needs.{needs}
 use Rattle.core.proofs.Core.turn.Statement.{statement}
 use Rattle.core.proofs.Core.turn.Tie as tie
 
-tick-requires : tie.Need-tick-requires
-tick-requires c κs = search needs
-
 returns : tie.Need-returns
 returns c = rw (c .tick .ensures)
 
 pub turn-spec : {M : Type 1} → statement M
-turn-spec = tie.close (tie.spec tick-requires returns)
+turn-spec = tie.close (tie.spec (λ c κs. search needs) returns)

@@ -10,21 +10,6 @@ use Rattle.core.proofs.Replies.{refused-reply, view-taken, one-when, ot
 use Rattle.core.proofs.Core.view.Statement.{statement}
 use Rattle.core.proofs.Core.view.Tie as tie
 
-one-due-requires : tie.Need-one-due-requires
-one-due-requires c κs = search needs
-
-view-verdict-requires : tie.Need-view-verdict-requires
-view-verdict-requires c κs = search needs
-
-fresh-requires : tie.Need-fresh-requires
-fresh-requires c κs = search needs
-
-enum-known-verdict : tie.Need-enum-known-verdict
-enum-known-verdict c = search needs
-
-viewed-requires : tie.Need-viewed-requires
-viewed-requires c κs = search needs
-
 returns : tie.Need-returns
 unfolding view
 returns c =
@@ -39,12 +24,6 @@ returns c =
           ∙ (λ j memory. refused-reply _ (why .0 .0) self memory (viewedReply self memory) refused j),
       r .2 ∙ ap shown (c .before .before .before .before .fresh .ensures) ∙ ap (λ (b : Bool). shown (cond b self freshCore)) (sym other),
     )
-
-enum-told : tie.Need-enum-told
-enum-told c = search needs
-
-viewed-requires-2 : tie.Need-viewed-requires-2
-viewed-requires-2 c κs = search needs
 
 returns-2 : tie.Need-returns-2
 returns-2 c =
@@ -61,12 +40,7 @@ pub view-spec : {M : Type 1} → statement M
 view-spec =
     tie.close
     (tie.spec
-    one-due-requires
-    view-verdict-requires
-    fresh-requires
-    enum-known-verdict
-    viewed-requires
+    (λ c κs. search needs) (λ c κs. search needs) (λ c κs. search needs) (λ c. search needs) (λ c κs. search needs)
     returns
-    enum-told
-    viewed-requires-2
+    (λ c. search needs) (λ c κs. search needs)
     returns-2)

@@ -7,15 +7,6 @@ use borrow.Author.Needs.{needs}
 use Rattle.core.proofs.Core.with_effect.Statement.{statement}
 use Rattle.core.proofs.Core.with_effect.Tie as tie
 
-slice-aggregate-set-register : tie.Need-slice-aggregate-set-register
-slice-aggregate-set-register c = search needs
-
-field-t-requires : tie.Need-field-t-requires
-field-t-requires c κs = search needs
-
-set-register-requires : tie.Need-set-register-requires
-set-register-requires c κs = search needs
-
 returns : tie.Need-returns
 returns c =
     let a = c .before .before .before .before .before .before .before .args in
@@ -38,4 +29,4 @@ returns c =
 pub with-effect-spec : {M : Type 1} → statement M
 with-effect-spec =
     tie.close
-    (tie.spec slice-aggregate-set-register field-t-requires set-register-requires returns)
+    (tie.spec (λ c. search needs) (λ c κs. search needs) (λ c κs. search needs) returns)

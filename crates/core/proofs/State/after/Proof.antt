@@ -10,36 +10,6 @@ use borrow.Author.Needs.{needs}
 use Rattle.core.proofs.State.after.Statement.{statement}
 use Rattle.core.proofs.State.after.Tie as tie
 
-stop-of-requires : tie.Need-stop-of-requires
-stop-of-requires c κs = search needs
-
-cost-requires : tie.Need-cost-requires
-cost-requires c κs = search needs
-
-field-a-requires : tie.Need-field-a-requires
-field-a-requires c κs = search needs
-
-register-of-requires : tie.Need-register-of-requires
-register-of-requires c κs = search needs
-
-field-t-requires : tie.Need-field-t-requires
-field-t-requires c κs = search needs
-
-field-b-requires : tie.Need-field-b-requires
-field-b-requires c κs = search needs
-
-second-register-requires : tie.Need-second-register-requires
-second-register-requires c κs = search needs
-
-register-of-requires-2 : tie.Need-register-of-requires-2
-register-of-requires-2 c κs = search needs
-
-latched-value-requires : tie.Need-latched-value-requires
-latched-value-requires c κs = search needs
-
-latched-value-requires-2 : tie.Need-latched-value-requires-2
-latched-value-requires-2 c κs = search needs
-
 add-t19 : tie.Need-add-t19
 add-t19 c =
     let l = c .before .before .before .before .before .before .before .before .before .before .before .before in
@@ -77,15 +47,7 @@ pub after-spec : {M : Type 1} → statement M
 after-spec =
     tie.close
     (tie.spec
-    stop-of-requires
-    cost-requires
-    field-a-requires
-    register-of-requires
-    field-t-requires
-    field-b-requires
-    second-register-requires
-    register-of-requires-2
-    latched-value-requires
-    latched-value-requires-2
+    (λ c κs. search needs) (λ c κs. search needs) (λ c κs. search needs) (λ c κs. search needs) (λ c κs. search needs)
+    (λ c κs. search needs) (λ c κs. search needs) (λ c κs. search needs) (λ c κs. search needs) (λ c κs. search needs)
     add-t19
     returns)

@@ -3,11 +3,8 @@ use borrow.Author.Needs.{needs}
 use Rattle.core.proofs.State.before.Statement.{statement}
 use Rattle.core.proofs.State.before.Tie as tie
 
-add-requires : tie.Need-add-requires
-add-requires c κs = search needs
-
 returns : tie.Need-returns
 returns c = rw (c .add .ensures)
 
 pub before-spec : {M : Type 1} → statement M
-before-spec = tie.close (tie.spec add-requires returns)
+before-spec = tie.close (tie.spec (λ c κs. search needs) returns)

@@ -7,30 +7,6 @@ use borrow.Author.Needs.{needs}
 use Rattle.core.proofs.State.execute.Statement.{statement}
 use Rattle.core.proofs.State.execute.Tie as tie
 
-field-a-requires : tie.Need-field-a-requires
-field-a-requires c κs = search needs
-
-register-of-requires : tie.Need-register-of-requires
-register-of-requires c κs = search needs
-
-field-b-requires : tie.Need-field-b-requires
-field-b-requires c κs = search needs
-
-register-of-requires-2 : tie.Need-register-of-requires-2
-register-of-requires-2 c κs = search needs
-
-field-t-requires : tie.Need-field-t-requires
-field-t-requires c κs = search needs
-
-register-of-requires-3 : tie.Need-register-of-requires-3
-register-of-requires-3 c κs = search needs
-
-before-requires : tie.Need-before-requires
-before-requires c κs = search needs
-
-execute-requires : tie.Need-execute-requires
-execute-requires c κs = search needs
-
 returns : tie.Need-returns
 returns c =
     let l = c .before .before .before .before in
@@ -46,12 +22,6 @@ pub execute-spec : {M : Type 1} → statement M
 execute-spec =
     tie.close
     (tie.spec
-    field-a-requires
-    register-of-requires
-    field-b-requires
-    register-of-requires-2
-    field-t-requires
-    register-of-requires-3
-    before-requires
-    execute-requires
+    (λ c κs. search needs) (λ c κs. search needs) (λ c κs. search needs) (λ c κs. search needs) (λ c κs. search needs)
+    (λ c κs. search needs) (λ c κs. search needs) (λ c κs. search needs)
     returns)

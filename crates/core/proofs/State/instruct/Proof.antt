@@ -10,33 +10,6 @@ use borrow.Author.Needs.{needs}
 use Rattle.core.proofs.State.instruct.Statement.{statement}
 use Rattle.core.proofs.State.instruct.Tie as tie
 
-read-requires : tie.Need-read-requires
-read-requires c κs = search needs
-
-kind-of-requires : tie.Need-kind-of-requires
-kind-of-requires c κs = search needs
-
-execute-requires : tie.Need-execute-requires
-execute-requires c κs = search needs
-
-after-requires : tie.Need-after-requires
-after-requires c κs = search needs
-
-field-t-requires : tie.Need-field-t-requires
-field-t-requires c κs = search needs
-
-set-register-requires : tie.Need-set-register-requires
-set-register-requires c κs = search needs
-
-apply-requires : tie.Need-apply-requires
-apply-requires c κs = search needs
-
-same-length : tie.Need-same-length
-same-length c = search needs
-
-same-length-2 : tie.Need-same-length-2
-same-length-2 c = search needs
-
 returns : tie.Need-returns
 returns c =
     let l = c .before .before .before .before .before .before in
@@ -61,13 +34,6 @@ pub instruct-spec : {M : Type 1} → statement M
 instruct-spec =
     tie.close
     (tie.spec
-    read-requires
-    kind-of-requires
-    execute-requires
-    after-requires
-    field-t-requires
-    set-register-requires
-    apply-requires
-    same-length
-    same-length-2
+    (λ c κs. search needs) (λ c κs. search needs) (λ c κs. search needs) (λ c κs. search needs) (λ c κs. search needs)
+    (λ c κs. search needs) (λ c κs. search needs) (λ c. search needs) (λ c. search needs)
     returns)

@@ -10,9 +10,6 @@ use Rattle.r8.proofs.call.bank_of.Tie as tie
 slice-aggregate-words : tie.Need-slice-aggregate-words
 slice-aggregate-words c = sym (length-take-le 16 (c .before .before .args .registers .now) (omega (arith, c .before .before .pre)))
 
-slice-aggregate-words-2 : tie.Need-slice-aggregate-words-2
-slice-aggregate-words-2 c = search needs
-
 words-requires : tie.Need-words-requires
 words-requires c κs =
     let start = c .before .before .before in
@@ -25,4 +22,4 @@ returns c =
 
 pub bank-of-spec : {M : Type 1} → statement M
 bank-of-spec =
-    tie.close (tie.spec slice-aggregate-words slice-aggregate-words-2 words-requires returns)
+    tie.close (tie.spec slice-aggregate-words (λ c. search needs) words-requires returns)

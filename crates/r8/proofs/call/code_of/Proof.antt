@@ -6,9 +6,6 @@ use Rattle.r8.specs.Call.{codeOf}
 use Rattle.r8.proofs.call.code_of.Statement.{statement}
 use Rattle.r8.proofs.call.code_of.Tie as tie
 
-is-core-requires : tie.Need-is-core-requires
-is-core-requires c κs = search needs
-
 returns : tie.Need-returns
 unfolding codeOf
 returns c = rw (sym (c .before .is-core .ensures) ∙ not-true _ (c .if1 .taken))
@@ -22,4 +19,4 @@ unfolding codeOf
 returns-3 c = rw (sym (c .before .before .is-core .ensures) ∙ not-false _ (c .before .if1 .left), le-ltb _ _ (c .if2 .left))
 
 pub code-of-spec : {M : Type 1} → statement M
-code-of-spec = tie.close (tie.spec is-core-requires returns returns-2 returns-3)
+code-of-spec = tie.close (tie.spec (λ c κs. search needs) returns returns-2 returns-3)

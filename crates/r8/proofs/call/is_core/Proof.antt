@@ -13,24 +13,15 @@ returns-2 : tie.Need-returns-2
 unfolding isCore
 returns-2 c = rw (eq-eqb _ _ (c .before .if1 .left), ne-eqb _ _ (c .if2 .taken))
 
-shared-slice-read-if3 : tie.Need-shared-slice-read-if3
-shared-slice-read-if3 c = search needs
-
 returns-3 : tie.Need-returns-3
 unfolding isCore
 returns-3 c = rw (eq-eqb _ _ (c .before .before .before .if1 .left), eq-eqb _ _ (c .before .before .if2 .left), lt-leb _ _ (c .if3 .taken))
-
-shared-slice-read-if4 : tie.Need-shared-slice-read-if4
-shared-slice-read-if4 c = search needs
 
 returns-4 : tie.Need-returns-4
 unfolding isCore
 returns-4 c =
     let s = c .before .before in
     rw (eq-eqb _ _ (s .before .before .before .if1 .left), eq-eqb _ _ (s .before .before .if2 .left), le-leb _ _ (s .if3 .left), lt-leb _ _ (c .if4 .taken))
-
-shared-slice-read-result : tie.Need-shared-slice-read-result
-shared-slice-read-result c = search needs
 
 returns-5 : tie.Need-returns-5
 unfolding isCore
@@ -44,9 +35,9 @@ is-core-spec =
     (tie.spec
     returns
     returns-2
-    shared-slice-read-if3
+    (λ c. search needs)
     returns-3
-    shared-slice-read-if4
+    (λ c. search needs)
     returns-4
-    shared-slice-read-result
+    (λ c. search needs)
     returns-5)

@@ -12,27 +12,6 @@ use borrow.Author.Needs.{needs}
 use Rattle.r8.proofs.call.put.Statement.{statement}
 use Rattle.r8.proofs.call.put.Tie as tie
 
-run-numbers-requires : tie.Need-run-numbers-requires
-run-numbers-requires c κs = search needs
-
-put-registers-requires : tie.Need-put-registers-requires
-put-registers-requires c κs = search needs
-
-put-state-requires : tie.Need-put-state-requires
-put-state-requires c κs = search needs
-
-put-requires : tie.Need-put-requires
-put-requires c κs = search needs
-
-same-length : tie.Need-same-length
-same-length c = search needs
-
-same-length-2 : tie.Need-same-length-2
-same-length-2 c = search needs
-
-same-length-3 : tie.Need-same-length-3
-same-length-3 c = search needs
-
 returns : tie.Need-returns
 unfolding onto
 returns c =
@@ -51,11 +30,6 @@ pub put-spec : {M : Type 1} → statement M
 put-spec =
     tie.close
     (tie.spec
-    run-numbers-requires
-    put-registers-requires
-    put-state-requires
-    put-requires
-    same-length
-    same-length-2
-    same-length-3
+    (λ c κs. search needs) (λ c κs. search needs) (λ c κs. search needs) (λ c κs. search needs) (λ c. search needs)
+    (λ c. search needs) (λ c. search needs)
     returns)

@@ -17,9 +17,6 @@ slice-aggregate-words c = search needs
 words-requires : tie.Need-words-requires
 words-requires c κs = omega (arith, slice-aggregate-words (c .before), c .before .before .before .before .pre)
 
-slice-write-registers : tie.Need-slice-write-registers
-slice-write-registers c = search needs
-
 -- the slice with the bank put there, and the words that are stored behind it
 abbrev banked : tie.After-slice-known2 → List ℕ
 banked c = c .before .before .words .last .1 .0
@@ -52,9 +49,6 @@ slice-write-registers-5 c = within c 4 20 (lit< tt)
 slice-write-registers-6 : tie.Need-slice-write-registers-6
 slice-write-registers-6 c = within c 5 21 (lit< tt)
 
-same-length : tie.Need-same-length
-same-length c = search needs
-
 returns : tie.Need-returns
 returns c =
     let start = c .before .before .before .before .before .before .before in
@@ -67,11 +61,11 @@ put-registers-spec =
     (tie.spec
     slice-aggregate-words
     words-requires
-    slice-write-registers
+    (λ c. search needs)
     slice-write-registers-2
     slice-write-registers-3
     slice-write-registers-4
     slice-write-registers-5
     slice-write-registers-6
-    same-length
+    (λ c. search needs)
     returns)

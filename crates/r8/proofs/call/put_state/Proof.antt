@@ -10,35 +10,11 @@ use Rattle.r8.proofs.Numbers.{flags-small, stop-small}
 use Rattle.r8.proofs.call.put_state.Statement.{statement}
 use Rattle.r8.proofs.call.put_state.Tie as tie
 
-flags-number-requires : tie.Need-flags-number-requires
-flags-number-requires c κs = search needs
-
 cast-state : tie.Need-cast-state
 cast-state c = omega (arith, c .flags-number .ensures, flags-small (c .before .before .before .before .args .core .flags))
 
-slice-write-state : tie.Need-slice-write-state
-slice-write-state c = search needs
-
-stop-number-requires : tie.Need-stop-number-requires
-stop-number-requires c κs = search needs
-
 cast-state-2 : tie.Need-cast-state-2
 cast-state-2 c = omega (arith, c .stop-number .ensures, stop-small (c .before .before .before .before .before .args .core .stop))
-
-slice-write-state-2 : tie.Need-slice-write-state-2
-slice-write-state-2 c = search needs
-
-cast-state-3 : tie.Need-cast-state-3
-cast-state-3 c = search needs
-
-slice-write-state-3 : tie.Need-slice-write-state-3
-slice-write-state-3 c = search needs
-
-slice-write-state-4 : tie.Need-slice-write-state-4
-slice-write-state-4 c = search needs
-
-same-length : tie.Need-same-length
-same-length c = search needs
 
 returns : tie.Need-returns
 unfolding onto
@@ -54,14 +30,9 @@ pub put-state-spec : {M : Type 1} → statement M
 put-state-spec =
     tie.close
     (tie.spec
-    flags-number-requires
+    (λ c κs. search needs)
     cast-state
-    slice-write-state
-    stop-number-requires
+    (λ c. search needs) (λ c κs. search needs)
     cast-state-2
-    slice-write-state-2
-    cast-state-3
-    slice-write-state-3
-    slice-write-state-4
-    same-length
+    (λ c. search needs) (λ c. search needs) (λ c. search needs) (λ c. search needs) (λ c. search needs)
     returns)

@@ -7,18 +7,6 @@ use Rattle.r8.proofs.Calls.{taken, refused, answered}
 use Rattle.r8.proofs.call.r8_step.Statement.{statement}
 use Rattle.r8.proofs.call.r8_step.Tie as tie
 
-code-of-requires : tie.Need-code-of-requires
-code-of-requires c κs = search needs
-
-same-length : tie.Need-same-length
-same-length c = search needs
-
-same-length-2 : tie.Need-same-length-2
-same-length-2 c = search needs
-
-same-length-3 : tie.Need-same-length-3
-same-length-3 c = search needs
-
 returns : tie.Need-returns
 returns c =
     let a = c .before .before .before .before .before .before .before .before .before .args in
@@ -32,27 +20,12 @@ core-of-requires c κs =
     let f = taken (a .registers .now) (a .state .now) (a .answer .now) _ (test .before .code-of .ensures) (test .if1 .left) .0 in
     (f .registers, f .state, f .due)
 
-step-requires : tie.Need-step-requires
-step-requires c κs = search needs
-
 put-requires : tie.Need-put-requires
 put-requires c κs =
     let test = c .before .before .before .before .before .before .before .before .before .before in
     let a = test .before .before .before .before .before .before .before .before .before .args in
     let f = taken (a .registers .now) (a .state .now) (a .answer .now) _ (test .before .code-of .ensures) (test .if1 .left) in
     (f .0 .registers, f .0 .state, f .1)
-
-same-length-4 : tie.Need-same-length-4
-same-length-4 c = search needs
-
-same-length-5 : tie.Need-same-length-5
-same-length-5 c = search needs
-
-same-length-6 : tie.Need-same-length-6
-same-length-6 c = search needs
-
-same-length-7 : tie.Need-same-length-7
-same-length-7 c = search needs
 
 returns-2 : tie.Need-returns-2
 returns-2 c =
@@ -69,16 +42,10 @@ pub r8-step-spec : {M : Type 1} → statement M
 r8-step-spec =
     tie.close
     (tie.spec
-    code-of-requires
-    same-length
-    same-length-2
-    same-length-3
+    (λ c κs. search needs) (λ c. search needs) (λ c. search needs) (λ c. search needs)
     returns
     core-of-requires
-    step-requires
+    (λ c κs. search needs)
     put-requires
-    same-length-4
-    same-length-5
-    same-length-6
-    same-length-7
+    (λ c. search needs) (λ c. search needs) (λ c. search needs) (λ c. search needs)
     returns-2)

@@ -14,27 +14,6 @@ use Rattle.r8.specs.Form.{partNumbers, formNumbers}
 use Rattle.r8.proofs.form.form_numbers.Statement.{statement}
 use Rattle.r8.proofs.form.form_numbers.Tie as tie
 
-parts-of-requires : tie.Need-parts-of-requires
-parts-of-requires c κs = search needs
-
-cast-t4 : tie.Need-cast-t4
-cast-t4 c = search needs
-
-cast-t5 : tie.Need-cast-t5
-cast-t5 c = search needs
-
-cast-t6 : tie.Need-cast-t6
-cast-t6 c = search needs
-
-cast-t7 : tie.Need-cast-t7
-cast-t7 c = search needs
-
-unsigned-of-requires : tie.Need-unsigned-of-requires
-unsigned-of-requires c κs = search needs
-
-unsigned-of-requires-2 : tie.Need-unsigned-of-requires-2
-unsigned-of-requires-2 c κs = search needs
-
 -- a signed number that goes through its bits is the same
 whole : (d : ℤ) → mag d < 32768 → unsigned (toZ w16 (ofZ w16 d)) ≡ unsigned d
 whole d h = ap unsigned (toZ-ofZ w16 d (record { sfits = h }))
@@ -52,11 +31,6 @@ pub form-numbers-spec : {M : Type 1} → statement M
 form-numbers-spec =
     tie.close
     (tie.spec
-    parts-of-requires
-    cast-t4
-    cast-t5
-    cast-t6
-    cast-t7
-    unsigned-of-requires
-    unsigned-of-requires-2
+    (λ c κs. search needs) (λ c. search needs) (λ c. search needs) (λ c. search needs) (λ c. search needs)
+    (λ c κs. search needs) (λ c κs. search needs)
     returns)

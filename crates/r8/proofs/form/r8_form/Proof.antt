@@ -23,27 +23,6 @@ returns : tie.Need-returns
 unfolding formed
 returns c = rw (lt-ltb _ _ (c .if1 .taken))
 
-word-to-form-requires : tie.Need-word-to-form-requires
-word-to-form-requires c κs = search needs
-
-enum-known-answer : tie.Need-enum-known-answer
-enum-known-answer c = search needs
-
-form-numbers-requires : tie.Need-form-numbers-requires
-form-numbers-requires c κs = search needs
-
-slice-aggregate-words : tie.Need-slice-aggregate-words
-slice-aggregate-words c = search needs
-
-words-requires : tie.Need-words-requires
-words-requires c κs = search needs
-
-enum-told : tie.Need-enum-told
-enum-told c = search needs
-
-same-length : tie.Need-same-length
-same-length c = search needs
-
 returns-2 : tie.Need-returns-2
 returns-2 c =
     let room = c .before .before .before .before .before .before .before .before .before .before in
@@ -64,12 +43,7 @@ r8-form-spec =
     tie.close
     (tie.spec
     returns
-    word-to-form-requires
-    enum-known-answer
-    form-numbers-requires
-    slice-aggregate-words
-    words-requires
-    enum-told
-    same-length
+    (λ c κs. search needs) (λ c. search needs) (λ c κs. search needs) (λ c. search needs) (λ c κs. search needs)
+    (λ c. search needs) (λ c. search needs)
     returns-2
     returns-3)

@@ -5,21 +5,6 @@ use Rattle.r8.specs.Replay.{returnedReplay, replayReturned}
 use Rattle.r8.proofs.replay.r8_replay.Statement.{statement}
 use Rattle.r8.proofs.replay.r8_replay.Tie as tie
 
-replay-requires : tie.Need-replay-requires
-replay-requires c κs = search needs
-
-place-of-requires : tie.Need-place-of-requires
-place-of-requires c κs = search needs
-
-code-of-requires : tie.Need-code-of-requires
-code-of-requires c κs = search needs
-
-same-length : tie.Need-same-length
-same-length c = search needs
-
-same-length-2 : tie.Need-same-length-2
-same-length-2 c = search needs
-
 returns : tie.Need-returns
 returns c =
     let x = c .before .before .before .before .before .before .replay in
@@ -30,4 +15,4 @@ returns c =
 pub r8-replay-spec : {M : Type 1} → statement M
 r8-replay-spec =
     tie.close
-    (tie.spec replay-requires place-of-requires code-of-requires same-length same-length-2 returns)
+    (tie.spec (λ c κs. search needs) (λ c κs. search needs) (λ c κs. search needs) (λ c. search needs) (λ c. search needs) returns)

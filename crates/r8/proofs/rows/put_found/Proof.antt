@@ -10,41 +10,11 @@ use borrow.Author.Needs.{needs}
 use Rattle.r8.proofs.rows.put_found.Statement.{statement}
 use Rattle.r8.proofs.rows.put_found.Tie as tie
 
-enum-known-found : tie.Need-enum-known-found
-enum-known-found c = search needs
-
-run-numbers-requires : tie.Need-run-numbers-requires
-run-numbers-requires c κs = search needs
-
-put-requires : tie.Need-put-requires
-put-requires c κs = search needs
-
-enum-known-found-2 : tie.Need-enum-known-found-2
-enum-known-found-2 c = search needs
-
-load-numbers-requires : tie.Need-load-numbers-requires
-load-numbers-requires c κs = search needs
-
-put-requires-2 : tie.Need-put-requires-2
-put-requires-2 c κs = search needs
-
-enum-told : tie.Need-enum-told
-enum-told c = search needs
-
-enum-told-2 : tie.Need-enum-told-2
-enum-told-2 c = search needs
-
-same-length : tie.Need-same-length
-same-length c = search needs
-
 returns : tie.Need-returns
 returns c =
     let a = c .before .before .before .before .before .before .before .before .before .args .answer .now in
     let put = c .before .before .put .ensures ∙ ap (λ (n : List ℕ). written n a) (c .before .before .before .run-numbers .ensures) in
     (λ j. (0, put j)) ∙ sym (ap (λ (f : TraceAnswer). foundReturned (findingOf f) a) (c .before .before .before .before .before .before .found .given .1))
-
-same-length-2 : tie.Need-same-length-2
-same-length-2 c = search needs
 
 returns-2 : tie.Need-returns-2
 returns-2 c =
@@ -64,17 +34,10 @@ pub put-found-spec : {M : Type 1} → statement M
 put-found-spec =
     tie.close
     (tie.spec
-    enum-known-found
-    run-numbers-requires
-    put-requires
-    enum-known-found-2
-    load-numbers-requires
-    put-requires-2
-    enum-told
-    enum-told-2
-    same-length
+    (λ c. search needs) (λ c κs. search needs) (λ c κs. search needs) (λ c. search needs) (λ c κs. search needs)
+    (λ c κs. search needs) (λ c. search needs) (λ c. search needs) (λ c. search needs)
     returns
-    same-length-2
+    (λ c. search needs)
     returns-2
     returns-3
     returns-4)

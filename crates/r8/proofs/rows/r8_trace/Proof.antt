@@ -15,18 +15,6 @@ returns-2 : tie.Need-returns-2
 unfolding tracedLent
 returns-2 c = simp (le-ltb _ _ (c .before .if1 .left), lt-ltb _ _ (c .if2 .taken))
 
-trace-requires : tie.Need-trace-requires
-trace-requires c κs = search needs
-
-put-found-requires : tie.Need-put-found-requires
-put-found-requires c κs = search needs
-
-same-length : tie.Need-same-length
-same-length c = search needs
-
-same-length-2 : tie.Need-same-length-2
-same-length-2 c = search needs
-
 returns-3 : tie.Need-returns-3
 unfolding tracedLent
 returns-3 c =
@@ -42,8 +30,5 @@ r8-trace-spec =
     (tie.spec
     returns
     returns-2
-    trace-requires
-    put-found-requires
-    same-length
-    same-length-2
+    (λ c κs. search needs) (λ c κs. search needs) (λ c. search needs) (λ c. search needs)
     returns-3)
