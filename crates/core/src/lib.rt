@@ -231,8 +231,7 @@ fn view_verdict(ready: bool) -> Verdict
 fn load_verdict(length: usize, ready: bool) -> Verdict
     ensures { λ r. ⌜ verdictNumber r ≡ loadNumber length ready ⌝ }
 {
-    let wrong = wrong_length(length);
-    if wrong {
+    if wrong_length(length) {
         return Verdict::Refused(Refusal::WrongLength);
     }
     view_verdict(ready)
