@@ -12,4 +12,7 @@ returns-2 : tie.Need-returns-2
 returns-2 c = ap (toZ w16) {x = 65535 - (65535 - c .before .args .word)} {y = c .before .args .word} (omega arith)
 
 pub signed-of-spec : {M : Type 1} → statement M
-signed-of-spec = tie.close (tie.spec (λ c. search needs) (λ c. search needs) (λ c. search needs) (λ c. search needs) returns-2)
+signed-of-spec =
+    tie.close
+    (tie.spec
+    (λ c. search needs) (λ c. search needs) (λ c. search needs) (λ c. search needs) returns-2)
