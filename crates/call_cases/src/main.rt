@@ -25,7 +25,7 @@ fn print_core(core: Core) {
     print_word(b"; PC ", core.pc);
     print_number(b" due ", core.due as u64);
     print_number(b" clock ", core.clock.0 as u64);
-    print_word(b" IR ", core.ir);
+    print_word(b" IR ", core.hidden.ir);
     print(b"\n");
 }
 

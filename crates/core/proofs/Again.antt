@@ -1,40 +1,37 @@
 -- The theorem `RunAgain` of specs/TheoremsOfCalls.antt: a run can be cut at every cycle.
 use mathlib.Core.Path.{_≡_, refl, sym, ap, _∙_}
-use mathlib.Core.Bool.{Bool, true, false, not, cond}
+use mathlib.Core.Bool.{Bool, true, false, not}
 use mathlib.Core.List.{List}
 use Prim.Native.Nat.{ℕ, zero, suc, _+_, _≤_}
 use native.Mathlib.Omega.{arith}
 use native.Mathlib.Nat.{add-zero}
-use borrow.Author.Tests.{le-leb, le-ltb}
-use lib.Dec.{leb, ltb}
+use borrow.Author.Tests.{le-ltb}
 use lib.ListN.{length}
 use Rattle.effects.specs.declared.Stop.{Stop}
 use Rattle.effects.specs.declared.Stop.the-variants.{Going, Halted, Undefined}
 use Rattle.core.specs.Datapath.{cycled}
+use Rattle.core.specs.Spent.{dueOne, dueInRange}
 use Rattle.core.specs.Numbers.{wrongLength, isGoing, clockFull, runNumber}
-use Rattle.core.specs.Calls.{Reply, Progress, advanced, cyclesOn, starting, ranReply, endOf, dueOne, dueInRange, run}
+use Rattle.core.specs.Calls.{Progress, advanced, cyclesOn, starting, ranReply, endOf, run}
 use Rattle.core.specs.TheoremsOfCalls.{RunAgain}
 use Rattle.core.specs.declared.Core.{Core}
 use Rattle.core.proofs.Cycles.{one-more, none-more, no-cycle, cycles-add, counted, cycles-counted}
 use Rattle.core.proofs.Endings.{budget, clock-moves, cycle-ticks}
-use Rattle.core.proofs.Refusals.{ready, due-when}
+use Rattle.core.proofs.Refusals.{ready}
 use Rattle.core.proofs.Taken.{no-run-number, reply-own}
 use Rattle.core.proofs.Replies.{passed, none-left, applied-length}
 
 -- cycles leave one of 1 to 4 due, and the memory's length
-pub due-stays : (n : ℕ) (p : Progress) → 1 ≤ p .core .due → p .core .due ≤ 4
-    → (1 ≤ cyclesOn n p .core .due) × (cyclesOn n p .core .due ≤ 4)
+pub due-stays : (n : ℕ) (p : Progress) → dueInRange (p .core) ≡ true → dueInRange (cyclesOn n p .core) ≡ true
 unfolding advanced
-due-stays zero p low high = rw (no-cycle p) (low, high)
-due-stays (suc n) p low high =
-    let t = cycle-ticks (p .memory) (p .core) low high in
-    by (isGoing (p .core .stop)) refl (due-stays n (advanced p) (t .low) (t .high))
+due-stays zero p due = rw (no-cycle p) due
+due-stays (suc n) p due =
+    by (isGoing (p .core .stop)) refl (due-stays n (advanced p) (cycle-ticks (p .memory) (p .core) due .due))
   where
-    by : (g : Bool) → isGoing (p .core .stop) ≡ g
-        → (1 ≤ cyclesOn n (advanced p) .core .due) × (cyclesOn n (advanced p) .core .due ≤ 4)
-        → (1 ≤ cyclesOn (suc n) p .core .due) × (cyclesOn (suc n) p .core .due ≤ 4)
+    by : (g : Bool) → isGoing (p .core .stop) ≡ g → dueInRange (cyclesOn n (advanced p) .core) ≡ true
+        → dueInRange (cyclesOn (suc n) p .core) ≡ true
     by true g ih = rw (one-more n p g) ih
-    by false g ih = rw (none-more (suc n) p g) (low, high)
+    by false g ih = rw (none-more (suc n) p g) due
 
 pub length-stays : (n : ℕ) (p : Progress) → length (cyclesOn n p .memory) ≡ length (p .memory)
 unfolding advanced
@@ -48,11 +45,10 @@ length-stays (suc n) p = by (isGoing (p .core .stop)) refl (length-stays n (adva
 
 -- a run that every number passes is its own reply
 run-passed : (b : ℕ) (core : Core) (memory : List ℕ) → wrongLength (length memory) ≡ false → isGoing (core .stop) ≡ true
-    → 1 ≤ core .due → core .due ≤ 4 → core .clock .0 + b ≤ 4294967295
+    → dueInRange core ≡ true → core .clock .0 + b ≤ 4294967295
     → run b core memory ≡ ranReply (cyclesOn b (starting core memory))
 unfolding run runNumber
-run-passed b core memory size going low high room =
-    let due : dueInRange core ≡ true = λ j. cond (le-leb 1 (core .due) low j) (le-leb (core .due) 4 high j) false in
+run-passed b core memory size going due room =
     let full : clockFull (core .clock .0) b ≡ false = le-ltb 4294967295 (core .clock .0 + b) room in
     reply-own _ core memory (ranReply (cyclesOn b (starting core memory)))
     (passed 1 _ _ size ∙ passed 8 _ _ (ap not going) ∙ passed 7 _ _ (ap not due) ∙ passed 9 _ _ full ∙ none-left)
@@ -68,18 +64,18 @@ run-again core memory i j taken =
     let q = cyclesOn i p in
     let number = no-run-number core memory (i + j) taken in
     let r = ready _ _ _ _ _ number in
-    let due = due-when core (r .due) in
-    let moved = clock-moves i p (due .0) (due .1) in
+    let due = r .due in
+    let moved = clock-moves i p due in
     let most = budget i p .0 in
     let room = r .room in
-    let first = run-passed i core memory (r .size) (r .going) (due .0) (due .1) (omega arith) in
-    let whole = run-passed (i + j) core memory (r .size) (r .going) (due .0) (due .1) room ∙ ap ranReply (cycles-add i j p) in
-    let after = due-stays i p (due .0) (due .1) in
+    let first = run-passed i core memory (r .size) (r .going) due (omega arith) in
+    let whole = run-passed (i + j) core memory (r .size) (r .going) due room ∙ ap ranReply (cycles-add i j p) in
+    let after = due-stays i p due in
     let s = starting (q .core) (q .memory) in
     let e = cyclesOn j s in
     let size = ap wrongLength (length-stays i p) ∙ r .size in
     let second : isGoing (q .core .stop) ≡ true → run j (q .core) (q .memory) ≡ ranReply e =
-    λ going. run-passed j (q .core) (q .memory) size going (after .0) (after .1) (omega (arith, moved, most, room)) in
+    λ going. run-passed j (q .core) (q .memory) size going after (omega (arith, moved, most, room)) in
     let used = sym (add-zero (q .used)) in
     let finished = sym (add-zero (q .finished)) in
     let same : cyclesOn j q ≡ counted (q .used) (q .finished) e =

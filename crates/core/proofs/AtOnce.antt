@@ -6,58 +6,47 @@ use mathlib.Core.List.{List}
 use Prim.Native.Nat.{ℕ, zero, suc, _+_, _-_, _≤_, _<_}
 use native.Mathlib.Omega.{arith}
 use native.Mathlib.Nat.{add-zero, zero-add}
-use borrow.Author.Tests.{leb-true, le-leb, lt-leb, eqb-true}
+use borrow.Author.Tests.{leb-true, le-leb}
 use lib.Dec.{leb}
-use lib.ListN.{length, set, length-set}
-use Rattle.words.specs.Memory.{wordAt}
+use lib.ListN.{length, length-set}
 use Rattle.isa.specs.Fields.{fieldT, fieldA, fieldB}
 use Rattle.table.specs.Table.{kindOf}
-use Rattle.effects.specs.Cycles.{calculated}
-use Rattle.effects.specs.Effect.{applied}
-use Rattle.effects.specs.declared.Executed.{Executed}
+use Rattle.effects.specs.Hidden.{noHidden, withIr, withRaRb}
+use Rattle.effects.specs.Cycles.{calculated, leaving}
 use Rattle.effects.proofs.Theorems.{second-of}
 use Rattle.effects.specs.declared.Stop.{Stop}
-use Rattle.core.specs.State.{Visible, visibleOf, register}
-use Rattle.core.specs.Instruction.{wordDue, effectOf, after, memoryAfter, costAt, coreAfter, withoutHidden, instructed}
+use Rattle.core.specs.State.{withHidden, withDue, Visible, visibleOf, register}
+use Rattle.core.specs.Spent.{dueInRange, dueOne}
+use Rattle.core.specs.Instruction.{wordDue, effectOf, after, memoryAfter, takes, coreAfter, instructed}
 use Rattle.core.specs.Datapath.{cycled}
-use Rattle.core.specs.Numbers.{isGoing}
-use Rattle.core.specs.Calls.{ran, endOf, dueOne, Progress, advanced, cyclesOn, starting, steppedReply}
-use Rattle.core.specs.AtOnce.{coreOf, restOf, beforeOf, executedOf, stateAfter, pastOne, goesOn, instructionsOn, ahead}
+use Rattle.core.specs.Numbers.{isGoing, longest}
+use Rattle.core.specs.Calls.{ran, endOf, Progress, advanced, cyclesOn, starting, steppedReply}
+use Rattle.core.specs.AtOnce.{seen, joined, beforeOf, stateAfter, doneOn, stateOn, bankOn, pastOne, goesOn, instructionsOn, ahead}
 use Rattle.core.specs.declared.Core.{Core}
 use Rattle.core.specs.declared.State.{State}
+use Rattle.core.proofs.Spent.{due-when-one}
 use Rattle.core.proofs.Cycles.{only-going, one-more, none-more, no-cycle, cycles-add, counted, cycles-counted, cost-range}
 use Rattle.core.proofs.OneInstruction.{one-instruction}
 use Rattle.core.proofs.Endings.{clock-moves}
 use Rattle.core.proofs.Replies.{bit-small, applied-length}
 use Rattle.core.proofs.Again.{due-stays, length-stays}
 
--- the instruction engine, on the two parts of a core: its word, and what it does
-abbrev wordOn : List ℕ → State → ℕ
-wordOn M s = wordAt M (s .pc)
-
-abbrev doneOn : List ℕ → List ℕ → State → Executed
-doneOn M regs s = executedOf (kindOf (wordOn M s)) (wordOn M s) regs M s
-
-pub core-after : (M regs : List ℕ) (s : State)
-    → coreOf (stateAfter (kindOf (wordOn M s)) (wordOn M s) regs (doneOn M regs s) s)
-    (set regs (fieldT (wordOn M s)) (doneOn M regs s .effect .rt))
-    ≡ coreAfter M (coreOf s regs)
-unfolding coreAfter after costAt
-core-after M regs s =
-    let w = wordOn M s in
+-- the instruction engine on the two parts of a core, with all else as it is in a core with cycle 1 due
+pub core-after : (core : Core) → dueOne core ≡ true → (M regs : List ℕ) (s : State)
+    → joined core (stateOn M regs s) (bankOn M regs s) ≡ coreAfter M (joined core s regs)
+unfolding coreAfter after
+core-after core one M regs s =
+    let w = wordDue M (seen s regs) in
     let done = doneOn M regs s in
+    let due = due-when-one core one in
     let second = second-of (kindOf w) (fieldT w) (fieldB w) (register regs) in
     let x = beforeOf s (register regs (fieldT w)) in
-    let ralu = ap (λ (RB : ℕ). calculated (kindOf w) w (register regs (fieldA w)) RB (s .ralu) x .value) second in
-    λ j. coreOf (stateAfter (kindOf w) w regs (record { effect = done .effect; ralu = ralu j }) s) (set regs (fieldT w) (done .effect .rt))
-
-pub memory-after : (M regs : List ℕ) (s : State)
-    → applied (doneOn M regs s .effect .store) M ≡ memoryAfter M (visibleOf (coreOf s regs))
-unfolding memoryAfter
-memory-after M regs s = refl
+    let ralu = ap (λ (RB : ℕ). calculated (kindOf w) (withRaRb (register regs (fieldA w)) RB (withIr w (s .hidden))) x .value) second in
+    λ j. withDue (due j)
+    (joined core (stateAfter (kindOf w) w regs (leaving (ralu j) (done .effect)) (takes M (seen s regs)) s) (bankOn M regs s))
 
 -- it moves the clock by its cost, and leaves the lengths of bank and memory
-pub clock-after : (M : List ℕ) (core : Core) → coreAfter M core .clock .0 ≡ core .clock .0 + costAt M (visibleOf core)
+pub clock-after : (M : List ℕ) (core : Core) → coreAfter M core .clock .0 ≡ core .clock .0 + takes M (visibleOf core)
 unfolding coreAfter
 clock-after M core = refl
 
@@ -70,26 +59,26 @@ unfolding memoryAfter
 memory-length M v = applied-length (effectOf (wordDue M v) M v .store) M
 
 -- a run under way, with the cycles used by the clock
-abbrev pub under : State → List ℕ → List ℕ → ℕ → ℕ → Progress
-under s regs M start count =
-    record { core = coreOf s regs; memory = M; used = s .clock .0 - start; finished = count }
+abbrev pub under : Core → State → List ℕ → List ℕ → ℕ → ℕ → Progress
+under core s regs M start count =
+    record { core = joined core s regs; memory = M; used = s .clock .0 - start; finished = count }
 
-pub past-one : (s s′ : State) (regs regs′ M M′ : List ℕ) (start count : ℕ)
-    → coreOf s′ regs′ ≡ coreAfter M (coreOf s regs) → M′ ≡ memoryAfter M (visibleOf (coreOf s regs)) → start ≤ s .clock .0
-    → under s′ regs′ M′ start (count + 1) ≡ pastOne (under s regs M start count)
+pub past-one : (core : Core) (s s′ : State) (regs regs′ M M′ : List ℕ) (start count count′ : ℕ)
+    → joined core s′ regs′ ≡ coreAfter M (joined core s regs) → M′ ≡ memoryAfter M (seen s regs) → start ≤ s .clock .0
+    → count′ ≡ count + 1 → under core s′ regs′ M′ start count′ ≡ pastOne (under core s regs M start count)
 unfolding pastOne
-past-one s s′ regs regs′ M M′ start count e m l =
-    let clock : s′ .clock .0 ≡ s .clock .0 + costAt M (visibleOf (coreOf s regs)) =
-    ap (λ (core : Core). core .clock .0) e ∙ clock-after M (coreOf s regs) in
-    let used : s′ .clock .0 - start ≡ (s .clock .0 - start) + costAt M (visibleOf (coreOf s regs)) = omega arith in
-    λ j. record { core = e j; memory = m j; used = used j; finished = count + 1 }
+past-one core s s′ regs regs′ M M′ start count count′ e m l f =
+    let clock : s′ .clock .0 ≡ s .clock .0 + takes M (seen s regs) =
+    ap (λ (core : Core). core .clock .0) e ∙ clock-after M (joined core s regs) in
+    let used : s′ .clock .0 - start ≡ (s .clock .0 - start) + takes M (seen s regs) = omega arith in
+    λ j. record { core = e j; memory = m j; used = used j; finished = f j }
 
 -- what lets an instruction be executed at once
-pub goes-on-when : (s : Stop) (left : ℕ) → goesOn s left ≡ true → (isGoing s ≡ true) × (4 ≤ left)
-goes-on-when s left e = by (leb 4 left) refl e
+pub goes-on-when : (s : Stop) (left : ℕ) → goesOn s left ≡ true → (isGoing s ≡ true) × (longest ≤ left)
+goes-on-when s left e = by (leb longest left) refl e
   where
-    by : (fits : Bool) → leb 4 left ≡ fits → cond fits (isGoing s) false ≡ true → (isGoing s ≡ true) × (4 ≤ left)
-    by true f e = (e, leb-true 4 left f)
+    by : (fits : Bool) → leb longest left ≡ fits → cond fits (isGoing s) false ≡ true → (isGoing s ≡ true) × (longest ≤ left)
+    by true f e = (e, leb-true longest left f)
     by false f e = absurd (let z : _≡_ {A = ℕ} 0 1 = cc in omega arith)
 
 -- one instruction more, and none
@@ -104,22 +93,9 @@ unfolding instructionsOn
 no-next zero b p g = refl
 no-next (suc n) b p g = ap (λ (goes : Bool). cond goes (instructionsOn n b (pastOne p)) p) g
 
--- a core with cycle 1 due is made of its parts
-pub of-parts : (core : Core) → core .due ≡ 1 → core ≡ coreOf (restOf core) (core .regs)
-of-parts core d =
-    λ j. record {
-      regs = core .regs;
-      pc = core .pc;
-      sp = core .sp;
-      flags = core .flags;
-      ir = core .ir;
-      ra = core .ra;
-      rb = core .rb;
-      ralu = core .ralu;
-      due = d j;
-      stop = core .stop;
-      clock = core .clock;
-    }
+pub none-asked : (n b : ℕ) (p : Progress) → n ≡ 0 → instructionsOn n b p ≡ p
+unfolding instructionsOn
+none-asked n b p e = ap (λ (n : ℕ). instructionsOn n b p) e
 
 -- q is k cycles on from p, within a budget
 record Along (b : ℕ) (p q : Progress) : Type 0 where
@@ -129,13 +105,13 @@ record Along (b : ℕ) (p q : Progress) : Type 0 where
   pub within : q .used ≤ b
 
 -- instructions at once are as many cycles as they cost: `OneInstruction`, again and again
-instructions-along : (n b : ℕ) (p : Progress) → p .core .due ≡ 1 → p .used ≤ b → Along b p (instructionsOn n b p)
+instructions-along : (n b : ℕ) (p : Progress) → dueOne (p .core) ≡ true → p .used ≤ b → Along b p (instructionsOn n b p)
 unfolding instructionsOn pastOne coreAfter
 instructions-along zero b p d l = record { k = 0; cycles = sym (no-cycle p); used = omega arith; within = l }
 instructions-along (suc n) b p d l = by (goesOn (p .core .stop) (b - p .used)) refl (instructions-along n b (pastOne p))
   where
     by : (goes : Bool) → goesOn (p .core .stop) (b - p .used) ≡ goes
-        → (pastOne p .core .due ≡ 1 → pastOne p .used ≤ b → Along b (pastOne p) (instructionsOn n b (pastOne p)))
+        → (dueOne (pastOne p .core) ≡ true → pastOne p .used ≤ b → Along b (pastOne p) (instructionsOn n b (pastOne p)))
         → Along b p (cond goes (instructionsOn n b (pastOne p)) p)
     by false g ih = record { k = 0; cycles = sym (no-cycle p); used = omega arith; within = l }
     by true g ih =
@@ -144,13 +120,13 @@ instructions-along (suc n) b p d l = by (goesOn (p .core .stop) (b - p .used)) r
         let rest = ih refl (omega (arith, when .1, cost .1)) in
         let one = one-instruction p (only-going (p .core .stop) (when .0)) d .1 in
         record {
-          k = costAt (p .memory) (visibleOf (p .core)) + rest .k;
+          k = takes (p .memory) (visibleOf (p .core)) + rest .k;
           cycles = rest .cycles ∙ sym (cycles-add _ (rest .k) p ∙ ap (cyclesOn (rest .k)) one);
           used = omega (arith, rest .used);
           within = rest .within;
         }
 
-first-used : (n b : ℕ) (p : Progress) → p .core .due ≡ 1 → 1 ≤ n → goesOn (p .core .stop) (b - p .used) ≡ true
+first-used : (n b : ℕ) (p : Progress) → dueOne (p .core) ≡ true → 1 ≤ n → goesOn (p .core .stop) (b - p .used) ≡ true
     → 1 ≤ instructionsOn n b p .used
 unfolding pastOne coreAfter
 first-used zero b p d l g = absurd (omega arith)
@@ -180,9 +156,9 @@ module _ (b : ℕ) (core : Core) (M : List ℕ) (going : isGoing (core .stop) �
         some = omega arith;
       }
 
-  whole : core .due ≡ 1 → 4 ≤ b → Turned b (starting core M) (instructionsOn b b (starting core M))
+  whole : dueOne core ≡ true → longest ≤ b → Turned b (starting core M) (instructionsOn b b (starting core M))
   whole d four =
-      let fits = le-leb 4 (b - 0) (omega arith) in
+      let fits = le-leb longest (b - 0) (omega arith) in
       record {
         along = instructions-along b b (starting core M) d (omega arith);
         some = first-used b b (starting core M) d left (λ j. cond (fits j) (going j) false);
@@ -191,16 +167,16 @@ module _ (b : ℕ) (core : Core) (M : List ℕ) (going : isGoing (core .stop) �
   turned : Turned b (starting core M) (ahead b (starting core M))
   turned = by-due (dueOne core) refl
     where
-      by-room : (fits : Bool) → leb 4 b ≡ fits → core .due ≡ 1
+      by-room : (fits : Bool) → leb longest b ≡ fits → dueOne core ≡ true
           → Turned b (starting core M) (cond fits (instructionsOn b b (starting core M)) (advanced (starting core M)))
       by-room false f d = one-cycle
-      by-room true f d = whole d (leb-true 4 b f)
+      by-room true f d = whole d (leb-true longest b f)
 
       by-due : (one : Bool) → dueOne core ≡ one
           → Turned b (starting core M)
-          (cond one (cond (leb 4 b) (instructionsOn b b (starting core M)) (advanced (starting core M))) (advanced (starting core M)))
+          (cond one (cond (leb longest b) (instructionsOn b b (starting core M)) (advanced (starting core M))) (advanced (starting core M)))
       by-due false o = one-cycle
-      by-due true o = by-room (leb 4 b) refl (eqb-true (core .due) 1 o)
+      by-due true o = by-room (leb longest b) refl o
 
 -- a turn of the loop leaves what the cycles left give, counts and all
 cycles-left : (b : ℕ) (p q : Progress) → Turned (b - p .used) (starting (p .core) (p .memory)) q
@@ -238,52 +214,44 @@ pub record Onward (b : ℕ) (p q : Progress) : Type 0 where
   pub most : q .used ≤ b - p .used
   pub few : q .finished ≤ q .used
   pub clock : q .core .clock .0 ≡ p .core .clock .0 + q .used
-  pub low : 1 ≤ q .core .due
-  pub high : q .core .due ≤ 4
+  pub due : dueInRange (q .core) ≡ true
   pub size : length (q .memory) ≡ length (p .memory)
 
-pub onward : (b : ℕ) (p q : Progress) → isGoing (p .core .stop) ≡ true → p .used < b → 1 ≤ p .core .due → p .core .due ≤ 4
+pub onward : (b : ℕ) (p q : Progress) → isGoing (p .core .stop) ≡ true → p .used < b → dueInRange (p .core) ≡ true
     → q ≡ ahead (b - p .used) (starting (p .core) (p .memory)) → Onward b p q
-onward b p q going below low high e =
+onward b p q going below due e =
     let s = starting (p .core) (p .memory) in
     let t : Turned (b - p .used) s q =
     subst (Turned (b - p .used) s) (sym e) (turned (b - p .used) (p .core) (p .memory) going (omega arith)) in
     let k = t .along .k in
     let c = t .along .cycles in
-    let due : (1 ≤ q .core .due) × (q .core .due ≤ 4) =
-    subst (λ (q : Progress). (1 ≤ q .core .due) × (q .core .due ≤ 4)) (sym c) (due-stays k s low high) in
     let few : q .finished ≤ q .used = subst (λ (q : Progress). q .finished ≤ q .used) (sym c) (few-finished k s (omega arith)) in
     let clock : q .core .clock .0 + 0 ≡ p .core .clock .0 + q .used =
-    subst (λ (q : Progress). q .core .clock .0 + 0 ≡ p .core .clock .0 + q .used) (sym c) (clock-moves k s low high) in
+    subst (λ (q : Progress). q .core .clock .0 + 0 ≡ p .core .clock .0 + q .used) (sym c) (clock-moves k s due) in
     record {
       left = cycles-left b p q t;
       some = t .some;
       most = t .along .within;
       few = few;
       clock = omega (arith, clock);
-      low = due .0;
-      high = due .1;
+      due = ap (λ (q : Progress). dueInRange (q .core)) c ∙ due-stays k s due;
       size = ap (λ (q : Progress). length (q .memory)) c ∙ length-stays k s;
     }
 
--- of a budget of 4 there is one instruction, since every one takes 2 cycles or more
-pub one-of-four : (core : Core) (M : List ℕ) → isGoing (core .stop) ≡ true
-    → instructionsOn 4 4 (starting core M) ≡ pastOne (starting core M)
-unfolding pastOne
-one-of-four core M going =
-    let p = starting core M in
-    let few = lt-leb 4 (4 - (0 + costAt M (visibleOf core))) (omega (arith, cost-range M (visibleOf core) .0)) in
-    next-one 3 4 p (pastOne p) going refl
-    ∙ no-next 3 4 (pastOne p) (ap (λ (fits : Bool). cond fits (isGoing (pastOne p .core .stop)) false) few)
+-- one instruction, where there is room for one
+pub just-one : (core : Core) (M : List ℕ) → isGoing (core .stop) ≡ true
+    → instructionsOn 1 longest (starting core M) ≡ pastOne (starting core M)
+unfolding instructionsOn
+just-one core M going = next-one 0 longest (starting core M) (pastOne (starting core M)) going refl
 
 -- and with the hidden registers zero it is a step's
 pub as-step : (core : Core) (M : List ℕ)
     → let p = pastOne (starting core M) in
-    let next = withoutHidden (p .core) in
+    let next = withHidden noHidden (p .core) in
     record { answer = ran (p .used) 1 (endOf (next .stop) (dueOne next)); core = next; memory = p .memory }
-    ≡ steppedReply (costAt M (visibleOf core)) (instructed M core) M
+    ≡ steppedReply (takes M (visibleOf core)) (instructed M core) M
 unfolding pastOne coreAfter memoryAfter instructed
 as-step core M =
-    let used = zero-add (costAt M (visibleOf core)) in
+    let used = zero-add (takes M (visibleOf core)) in
     let next = instructed M core .core in
     λ j. record { answer = ran (used j) 1 (endOf (next .stop) (dueOne next)); core = next; memory = memoryAfter M (visibleOf core) }

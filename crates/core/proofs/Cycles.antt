@@ -2,9 +2,9 @@
 use mathlib.Core.Path.{_≡_, refl, sym, ap, _∙_}
 use mathlib.Core.Bool.{Bool, true, false, cond}
 use mathlib.Core.List.{List}
-use Prim.Native.Nat.{ℕ, zero, suc, _+_, _≤_}
+use Prim.Native.Nat.{ℕ, zero, suc, _+_, _≤_, _<_}
 use native.Mathlib.Omega.{arith}
-use borrow.Author.Tests.{ne-eqb}
+use borrow.Author.Tests.{ne-eqb, le-ltb, lt-ltb}
 use lib.Dec.{lit≤}
 use native.Mathlib.Nat.{zero-add, suc-add}
 use Rattle.isa.specs.Cost.{countOf, classOf, costOf}
@@ -16,10 +16,10 @@ use Rattle.table.specs.Table.{kindOf}
 use Rattle.effects.specs.Cycles.{stopOf}
 use Rattle.effects.specs.declared.Stop as stop
 use Rattle.effects.specs.declared.Store.the-variants.{Nothing}
-use Rattle.core.specs.Datapath.{fetched, second, third, fourthEffect, withEffect, turn, isLast, laterCycle, cycled}
+use Rattle.core.specs.Datapath.{fetched, second, third, fourthEffect, withEffect, turn, idle, isLast, laterCycle, cycled, oneCycle}
 use Rattle.core.specs.State.{Visible}
-use Rattle.core.specs.Instruction.{wordDue, costAt}
-use Rattle.core.specs.Numbers.{isGoing}
+use Rattle.core.specs.Instruction.{wordDue, takes}
+use Rattle.core.specs.Numbers.{isGoing, longest}
 use Rattle.core.specs.Calls.{Progress, advanced, cyclesOn}
 use Rattle.core.specs.declared.Core.{Core}
 
@@ -29,7 +29,7 @@ module _ (M : List ℕ) (core : Core) where
   unfolding cycled
   first-cycle e = rw e
 
-  pub later : (core .due ≡ 1 → ⊥) → cycled M core ≡ laterCycle (kindOf (core .ir)) M core
+  pub later : (core .due ≡ 1 → ⊥) → cycled M core ≡ laterCycle (kindOf (core .hidden .ir)) M core
   unfolding cycled
   later n = rw (ne-eqb (core .due) 1 n)
 
@@ -48,9 +48,19 @@ module _ (M : List ℕ) (core : Core) where
   fourth-cycle kind e = rw e
 
   pub no-cycle-due : (kind : Kind) → (core .due ≡ 2 → ⊥) → (core .due ≡ 3 → ⊥) → (core .due ≡ 4 → ⊥)
-      → laterCycle kind M core ≡ record { core = core; finished = false; store = Nothing }
+      → laterCycle kind M core ≡ idle core
   unfolding laterCycle
   no-cycle-due kind n2 n3 n4 = rw (ne-eqb (core .due) 2 n2, ne-eqb (core .due) 3 n3, ne-eqb (core .due) 4 n4)
+
+-- within the clock a cycle is done
+pub within-clock : (M : List ℕ) (core : Core) → core .clock .0 < 4294967295 → oneCycle M core ≡ cycled M core
+unfolding oneCycle
+within-clock M core h = rw (le-ltb 4294967295 (core .clock .0 + 1) (omega arith))
+
+-- and with the clock full none
+pub full-clock : (M : List ℕ) (core : Core) → 4294967295 ≤ core .clock .0 → oneCycle M core ≡ idle core
+unfolding oneCycle
+full-clock M core h = rw (lt-ltb 4294967295 (core .clock .0 + 1) (omega arith))
 
 -- cycle 2 itself leaves the clock, and the cycle due
 pub second-keeps : (s : stop.Stop) (k : Kind) (c : Core) → (second s k c .clock .0 ≡ c .clock .0) × (second s k c .due ≡ c .due)
@@ -112,16 +122,16 @@ only-going stop.the-variants.Going e = refl
 only-going stop.the-variants.Halted e = cc
 only-going stop.the-variants.Undefined e = cc
 
--- an instruction costs 2 to 4 cycles
+-- an instruction takes 2 cycles, and at most those of the longest
 two-to-four : (class : Class) → (2 ≤ countOf class) × (countOf class ≤ 4)
 two-to-four Stop = (lit≤ tt, lit≤ tt)
 two-to-four Short = (lit≤ tt, lit≤ tt)
 two-to-four Full = (lit≤ tt, lit≤ tt)
 
-pub cost-of-range : (kind : Kind) (flags : Flags) → (2 ≤ costOf kind flags) × (costOf kind flags ≤ 4)
+pub cost-of-range : (kind : Kind) (flags : Flags) → (2 ≤ costOf kind flags) × (costOf kind flags ≤ longest)
 unfolding costOf
 cost-of-range kind flags = two-to-four (classOf kind flags)
 
-pub cost-range : (M : List ℕ) (v : Visible) → (2 ≤ costAt M v) × (costAt M v ≤ 4)
-unfolding costAt
+pub cost-range : (M : List ℕ) (v : Visible) → (2 ≤ takes M v) × (takes M v ≤ longest)
+unfolding takes
 cost-range M v = cost-of-range (kindOf (wordDue M v)) (v .flags)

@@ -5,7 +5,7 @@ use mathlib.Core.Bool.{Bool, true, false}
 use mathlib.Core.List.{List}
 use Prim.Native.Nat.{ℕ, zero, suc, _+_, _≤_}
 use native.Mathlib.Omega.{arith}
-use borrow.Author.Tests.{eqb-true, eqb-false, le-leb}
+use borrow.Author.Tests.{eqb-false, le-leb}
 use lib.Dec.{eqb, lit≤}
 use Rattle.isa.specs.Cost.{costOf}
 use Rattle.table.specs.Table.{kindOf}
@@ -16,11 +16,14 @@ use Rattle.effects.specs.declared.Stop.{Stop}
 use Rattle.effects.specs.declared.Stop.the-variants.{Going, Halted, Undefined}
 use Rattle.core.specs.Datapath.{fetched, second, third, dueAfter, turn, isLast, cycled}
 use Rattle.core.specs.Numbers.{isGoing}
-use Rattle.core.specs.Calls.{Progress, advanced, cyclesOn, endOf, dueOne}
+use Rattle.core.specs.Spent.{dueInRange, dueOne}
+use Rattle.core.specs.Calls.{Progress, advanced, cyclesOn, endOf}
 use Rattle.core.specs.TheoremsOfCalls.{Letter}
 use Rattle.core.specs.declared.Core.{Core}
 use Rattle.core.specs.declared.End.{End}
 use Rattle.core.specs.declared.End.the-variants.{H, U, B, M}
+use Rattle.core.proofs.Spent.{due-when-one, one-when-due, due-when, range-when}
+use Rattle.core.proofs.Refusals.{clash}
 use Rattle.core.proofs.Cycles.{first-cycle, later, second-cycle, third-cycle, fourth-cycle, second-keeps, no-cycle, one-more, none-more, cost-of-range}
 
 neither : {P Q : Type 0} → (P → ⊥) → (Q → ⊥) → P ↔ Q
@@ -47,30 +50,30 @@ other-end a b d e = eqb-false (endNumber a) (endNumber b) d (ap endNumber e)
 other-stop : (a b : Stop) → eqb (stopNumber a) (stopNumber b) ≡ false → a ≡ b → ⊥
 other-stop a b d e = eqb-false (stopNumber a) (stopNumber b) d (ap stopNumber e)
 
-letters : (s : Stop) (due : ℕ) (one : Bool) → eqb due 1 ≡ one
+letters : (s : Stop) (One : Type 0) (one : Bool) → (one ≡ true → One) → (one ≡ false → One → ⊥)
     → ((endOf s one ≡ H) ↔ (s ≡ Halted))
     × ((endOf s one ≡ U) ↔ (s ≡ Undefined))
-    × ((endOf s one ≡ B) ↔ ((s ≡ Going) × (due ≡ 1)))
-    × ((endOf s one ≡ M) ↔ ((s ≡ Going) × (due ≡ 1 → ⊥)))
-letters Going due true e = (
+    × ((endOf s one ≡ B) ↔ ((s ≡ Going) × One))
+    × ((endOf s one ≡ M) ↔ ((s ≡ Going) × (One → ⊥)))
+letters Going One true t f = (
   neither (other-end B H refl) (other-stop Going Halted refl),
   neither (other-end B U refl) (other-stop Going Undefined refl),
-  hold refl (refl, eqb-true due 1 e),
-  neither (other-end B M refl) (λ z. z .1 (eqb-true due 1 e)),
+  hold refl (refl, t refl),
+  neither (other-end B M refl) (λ z. z .1 (t refl)),
 )
-letters Going due false e = (
+letters Going One false t f = (
   neither (other-end M H refl) (other-stop Going Halted refl),
   neither (other-end M U refl) (other-stop Going Undefined refl),
-  neither (other-end M B refl) (λ z. eqb-false due 1 e (z .1)),
-  hold refl (refl, eqb-false due 1 e),
+  neither (other-end M B refl) (λ z. f refl (z .1)),
+  hold refl (refl, f refl),
 )
-letters Halted due one e = (
+letters Halted One one t f = (
   hold refl refl,
   neither (other-end H U refl) (other-stop Halted Undefined refl),
   neither (other-end H B refl) (λ z. other-stop Halted Going refl (z .0)),
   neither (other-end H M refl) (λ z. other-stop Halted Going refl (z .0)),
 )
-letters Undefined due one e = (
+letters Undefined One one t f = (
   neither (other-end U H refl) (other-stop Undefined Halted refl),
   hold refl refl,
   neither (other-end U B refl) (λ z. other-stop Undefined Going refl (z .0)),
@@ -78,7 +81,8 @@ letters Undefined due one e = (
 )
 
 pub letter : (core : Core) → Letter (endOf (core .stop) (dueOne core)) core
-letter core = letters (core .stop) (core .due) (dueOne core) refl
+letter core =
+    letters (core .stop) (core .due ≡ 1) (dueOne core) (due-when-one core) (λ e d. clash (one-when-due core d) e)
 
 -- the cycles done are the budget, or fewer and the core is stopped
 pub budget : (n : ℕ) (p : Progress)
@@ -103,13 +107,13 @@ due-after-range false due h = (omega arith, omega arith)
 
 pub record Ticks (before after : Core) : Type 0 where
   pub clock : after .clock .0 ≡ before .clock .0 + 1
-  pub low : 1 ≤ after .due
-  pub high : after .due ≤ 4
+  pub due : dueInRange after ≡ true
 
 ticks : (finished : Bool) (before core : Core) (store : Store) → core .clock .0 ≡ before .clock .0 → core .due ≤ 3
     → Ticks before (turn finished core store .core)
 ticks finished before core store c d =
-    let r = due-after-range finished (core .due) d in record { clock = ap (λ (n : ℕ). n + 1) c; low = r .0; high = r .1 }
+    let r = due-after-range finished (core .due) d in
+    record { clock = ap (λ (n : ℕ). n + 1) c; due = range-when (turn finished core store .core) (r .0) (r .1) }
 
 four-cases : (P : Type 0) (n : ℕ) → 1 ≤ n → n ≤ 4 → (n ≡ 1 → P) → (n ≡ 2 → P) → (n ≡ 3 → P) → (n ≡ 4 → P) → P
 four-cases P zero l h p1 p2 p3 p4 = absurd (omega arith)
@@ -119,10 +123,11 @@ four-cases P (suc (suc (suc zero))) l h p1 p2 p3 p4 = p3 refl
 four-cases P (suc (suc (suc (suc zero)))) l h p1 p2 p3 p4 = p4 refl
 four-cases P (suc (suc (suc (suc (suc n))))) l h p1 p2 p3 p4 = absurd (omega arith)
 
-pub cycle-ticks : (memory : List ℕ) (core : Core) → 1 ≤ core .due → core .due ≤ 4 → Ticks core (cycled memory core .core)
-cycle-ticks memory core low high =
-    let k = kindOf (core .ir) in
-    four-cases (Ticks core (cycled memory core .core)) (core .due) low high
+pub cycle-ticks : (memory : List ℕ) (core : Core) → dueInRange core ≡ true → Ticks core (cycled memory core .core)
+cycle-ticks memory core due =
+    let k = kindOf (core .hidden .ir) in
+    let r = due-when core due in
+    four-cases (Ticks core (cycled memory core .core)) (core .due) (r .0) (r .1)
     (λ d. rw (first-cycle memory core d) (ticks false core (fetched memory core) Nothing refl (omega arith)))
     (λ d. let keeps = second-keeps (stopOf k) k core in
     rw (later memory core (λ e. omega arith) ∙ second-cycle memory core k d)
@@ -131,16 +136,16 @@ cycle-ticks memory core low high =
     (ticks (isLast k core) core (third k core) Nothing refl (omega arith)))
     (λ d. let last : isLast k core ≡ true = le-leb (costOf k (core .flags)) (core .due) (omega (arith, cost-of-range k (core .flags) .1)) in
     rw (later memory core (λ e. omega arith) ∙ fourth-cycle memory core k d, last)
-    (record { clock = refl; low = lit≤ tt; high = lit≤ tt }))
+    (record { clock = refl; due = refl }))
 
 -- so the clock moves by what is used
-pub clock-moves : (n : ℕ) (p : Progress) → 1 ≤ p .core .due → p .core .due ≤ 4
+pub clock-moves : (n : ℕ) (p : Progress) → dueInRange (p .core) ≡ true
     → cyclesOn n p .core .clock .0 + p .used ≡ p .core .clock .0 + cyclesOn n p .used
 unfolding advanced
-clock-moves zero p low high = rw (no-cycle p) refl
-clock-moves (suc n) p low high =
-    let t = cycle-ticks (p .memory) (p .core) low high in
-    by (isGoing (p .core .stop)) refl (clock-moves n (advanced p) (t .low) (t .high)) t
+clock-moves zero p due = rw (no-cycle p) refl
+clock-moves (suc n) p due =
+    let t = cycle-ticks (p .memory) (p .core) due in
+    by (isGoing (p .core .stop)) refl (clock-moves n (advanced p) (t .due)) t
   where
     by : (g : Bool) → isGoing (p .core .stop) ≡ g
         → cyclesOn n (advanced p) .core .clock .0 + advanced p .used ≡ advanced p .core .clock .0 + cyclesOn n (advanced p) .used

@@ -1,4 +1,5 @@
 -- Laws about the definitions of `core`, and its theorems.
+pub mod Spent
 pub mod Cycles
 pub mod OneInstruction
 pub mod AtOnce

@@ -9,7 +9,6 @@ use lib.Dec.{leb}
 use lib.ListN.{set}
 use lib.Seq.{set-getD}
 use Rattle.isa.specs.Fields.{fieldT, fieldA, fieldB}
-use Rattle.isa.specs.Control.{secondRegister}
 use Rattle.isa.specs.Cost.{countOf, classOf, costOf}
 use Rattle.isa.specs.declared.Class.{Class}
 use Rattle.isa.specs.declared.Class.the-variants.{Stop, Short, Full}
@@ -19,92 +18,53 @@ use Rattle.words.specs.Arithmetic.{sum}
 use Rattle.alu.specs.declared.Outcome.{Outcome}
 use Rattle.effects.specs.Effect.{stopping, applied}
 use Rattle.effects.specs.declared.Effect.{Effect}
-use Rattle.effects.specs.Cycles.{stopOf}
+use Rattle.effects.specs.Hidden.{withIr, withRaRb, withRalu}
+use Rattle.effects.specs.Cycles.{stopOf, unlessStopping}
+use Rattle.effects.specs.declared.Hidden.{Hidden}
 use Rattle.effects.specs.Theorems.{AsCycles, Idle}
 use Rattle.effects.proofs.Theorems.{cycles-agree, past-the-last}
 use Rattle.effects.specs.declared.Stop as stop
 use Rattle.effects.specs.declared.Stop.the-variants.{Going, Halted, Undefined}
 use Rattle.effects.specs.declared.Store.the-variants.{Nothing}
-use Rattle.core.specs.State.{Visible, visibleOf, register, reach, changed}
-use Rattle.core.specs.Datapath.{fetched, latched, stopped, second, third, fourthEffect, withEffect, ticked, turn, isLast, laterCycle, cycled}
-use Rattle.core.specs.Instruction.{wordDue, past, effectOf, after, memoryAfter, costAt, unlessStopping, secondOf, coreAfter}
+use Rattle.core.specs.State.{withPc, withFlags, withHidden, withDue, stopped, withClock, Visible, visibleOf, visible, withVisible, register, raOf, rbOf, reach, changed}
+use Rattle.core.specs.Spent.{dueOne}
+use Rattle.core.specs.Datapath.{fetched, latched, second, third, fourthEffect, withEffect, ticked, turn, isLast, laterCycle, cycled}
+use Rattle.core.specs.Instruction.{wordDue, past, effectOf, after, memoryAfter, takes, resultOf, coreAfter}
 use Rattle.core.specs.Numbers.{isGoing}
 use Rattle.core.specs.Calls.{Progress, advancedBy, advanced, cyclesOn}
 use Rattle.core.specs.AtOnce.{pastOne}
 use Rattle.core.specs.Theorems.{Midway, OneInstruction}
 use Rattle.core.specs.declared.Core.{Core}
+use Rattle.core.proofs.Spent.{due-when-one}
 use Rattle.core.proofs.Cycles.{one-more, no-cycle}
 
 -- q is past the instruction that starts at p, part by part
 pub record Finished (p q : Progress) : Type 0 where
   pub visible : visibleOf (q .core) ≡ after (p .memory) (visibleOf (p .core))
-  pub ir : q .core .ir ≡ coreAfter (p .memory) (p .core) .ir
-  pub ra : q .core .ra ≡ coreAfter (p .memory) (p .core) .ra
-  pub rb : q .core .rb ≡ coreAfter (p .memory) (p .core) .rb
-  pub ralu : q .core .ralu ≡ coreAfter (p .memory) (p .core) .ralu
   pub memory : q .memory ≡ memoryAfter (p .memory) (visibleOf (p .core))
-  pub due : q .core .due ≡ 1
-  pub clock : q .core .clock .0 ≡ p .core .clock .0 + costAt (p .memory) (visibleOf (p .core))
-  pub used : q .used ≡ p .used + costAt (p .memory) (visibleOf (p .core))
+  pub due : dueOne (q .core) ≡ true
+  pub clock : q .core .clock .0 ≡ p .core .clock .0 + takes (p .memory) (visibleOf (p .core))
+  pub used : q .used ≡ p .used + takes (p .memory) (visibleOf (p .core))
   pub finished : q .finished ≡ p .finished + 1
 
--- which is all there is
-whole : (p q : Progress) → Finished p q → q ≡ pastOne p
+parts : (p q : Progress) → q ≡ pastOne p → Finished p q
 unfolding pastOne coreAfter
-whole p q f =
-    let v = f .visible in
-    λ j. record {
-      core =
-          record {
-            regs = v j .regs;
-            pc = v j .pc;
-            sp = v j .sp;
-            flags = v j .flags;
-            ir = f .ir j;
-            ra = f .ra j;
-            rb = f .rb j;
-            ralu = f .ralu j;
-            due = f .due j;
-            stop = v j .stop;
-            clock = record { 0 = f .clock j };
-          };
-      memory = f .memory j;
-      used = f .used j;
-      finished = f .finished j;
+parts p q e =
+    record {
+      visible = ap (λ (q : Progress). visibleOf (q .core)) e;
+      memory = ap (λ (q : Progress). q .memory) e;
+      due = ap (λ (q : Progress). dueOne (q .core)) e;
+      clock = ap (λ (q : Progress). q .core .clock .0) e;
+      used = ap (λ (q : Progress). q .used) e;
+      finished = ap (λ (q : Progress). q .finished) e;
     }
 
 -- a core at the start of an instruction, with cycle 1 due and going written out
 abbrev ready : Core → Core
-ready c =
-    record {
-      regs = c .regs;
-      pc = c .pc;
-      sp = c .sp;
-      flags = c .flags;
-      ir = c .ir;
-      ra = c .ra;
-      rb = c .rb;
-      ralu = c .ralu;
-      due = 1;
-      stop = Going;
-      clock = c .clock;
-    }
+ready c = withDue 1 (stopped Going c)
 
-is-ready : (c : Core) → c .stop ≡ Going → c .due ≡ 1 → c ≡ ready c
-is-ready c g d =
-    λ j. record {
-      regs = c .regs;
-      pc = c .pc;
-      sp = c .sp;
-      flags = c .flags;
-      ir = c .ir;
-      ra = c .ra;
-      rb = c .rb;
-      ralu = c .ralu;
-      due = d j;
-      stop = g j;
-      clock = c .clock;
-    }
+is-ready : (c : Core) → c .stop ≡ Going → dueOne c ≡ true → c ≡ ready c
+is-ready c g d = let due = due-when-one c d in λ j. withDue (due j) (stopped (g j) c)
 
 second-stops : (s : stop.Stop) (k : Kind) (c : Core) → (s ≡ Going → ⊥) → second s k c ≡ stopped s c
 second-stops Going k c n = absurd (n refl)
@@ -122,10 +82,10 @@ keeps Going new old n = absurd (n refl)
 keeps Halted new old n = refl
 keeps Undefined new old n = refl
 
-takes : (s : stop.Stop) (new old : ℕ) → s ≡ Going → new ≡ unlessStopping s new old
-takes Going new old e = refl
-takes Halted new old e = cc
-takes Undefined new old e = cc
+latches : (s : stop.Stop) (new old : ℕ) → s ≡ Going → new ≡ unlessStopping s new old
+latches Going new old e = refl
+latches Halted new old e = cc
+latches Undefined new old e = cc
 
 -- the word at PC, its kind, what the instruction sees, and the core after each cycle but the last
 abbrev word : List ℕ → Core → ℕ
@@ -146,27 +106,29 @@ after3 M c = ticked false (third (kind M c) (after2 M c))
 abbrev at : Core → List ℕ → ℕ → ℕ → Progress
 at c M used finished = record { core = c; memory = M; used = used; finished = finished }
 
+-- the hidden registers with the word in IR; and RA and RB latched
+abbrev holding : List ℕ → Core → Hidden
+holding M c = withIr (word M c) (c .hidden)
+
+abbrev holds : List ℕ → Core → Hidden
+holds M c = withRaRb (raOf (word M c) (c .regs)) (rbOf (kind M c) (word M c) (c .regs)) (holding M c)
+
 -- the instruction by the table, and cycles 2 to 4, by its class
 abbrev Classes : Class → List ℕ → Core → Type 0
 Classes class M c =
-    AsCycles class (kind M c) (word M c) (register (c .regs) (fieldA (word M c)))
-    (register (c .regs) (secondRegister (kind M c) (fieldT (word M c)) (fieldB (word M c)))) (c .ralu) M
-    (reach (word M c) (past (visibleOf (ready c)))) (effectOf (word M c) M (visibleOf (ready c)))
+    AsCycles class (kind M c) (holds M c) M (reach (word M c) (past (visibleOf (ready c)))) (effectOf (word M c) M (visibleOf (ready c)))
 
 classes : (M : List ℕ) (c : Core) → Classes (classOf (kind M c) (c .flags)) M c
 classes M c =
-    cycles-agree (kind M c) (word M c) (fieldT (word M c)) (fieldA (word M c)) (fieldB (word M c)) (c .ralu) (register (c .regs)) M
+    cycles-agree (kind M c) (fieldT (word M c)) (fieldA (word M c)) (fieldB (word M c)) (register (c .regs)) M (holding M c)
     (reach (word M c) (past (visibleOf (ready c)))) refl
 
 -- a HALT or undefined word leaves RALU
-ralu-stays : (M : List ℕ) (c : Core) → classOf (kind M c) (c .flags) ≡ Stop → c .ralu ≡ coreAfter M (ready c) .ralu
-unfolding coreAfter
+ralu-stays : (M : List ℕ) (c : Core) → classOf (kind M c) (c .flags) ≡ Stop → c .hidden .ralu ≡ resultOf (word M c) (ready c)
 ralu-stays M c e =
-    let w = word M c in
-    let x = reach w (past (visibleOf (ready c))) in
-    let idle : Idle Stop (kind M c) w (register (c .regs) (fieldA w)) (secondOf w c) (c .ralu) M x =
-    subst (λ (class : Class). Idle class (kind M c) w (register (c .regs) (fieldA w)) (secondOf w c) (c .ralu) M x) e
-    (past-the-last (kind M c) w (register (c .regs) (fieldA w)) (secondOf w c) (c .ralu) M x) in
+    let x = reach (word M c) (past (visibleOf (ready c))) in
+    let idle : Idle Stop (kind M c) (holds M c) M x =
+    subst (λ (class : Class). Idle class (kind M c) (holds M c) M x) e (past-the-last (kind M c) (holds M c) M x) in
     sym (ap (λ (outcome : Outcome). outcome .value) (idle .0))
 
 module _ (M : List ℕ) (c : Core) (u f : ℕ) where
@@ -198,8 +160,8 @@ module _ (M : List ℕ) (c : Core) (u f : ℕ) where
 
 -- what the class says of the cost, and of the last cycle
 cost-at : (M : List ℕ) (c : Core) (class : Class) → classOf (kind M c) (c .flags) ≡ class
-    → costAt M (visibleOf (ready c)) ≡ countOf class
-unfolding costAt costOf
+    → takes M (visibleOf (ready c)) ≡ countOf class
+unfolding takes costOf
 cost-at M c class e = ap countOf e
 
 last-by : (M : List ℕ) (c : Core) (class : Class) (due : ℕ) → classOf (kind M c) (c .flags) ≡ class
@@ -250,6 +212,7 @@ module _ (M : List ℕ) (c : Core) (u f : ℕ) where
     memory = refl;
     going = refl;
     due = refl;
+    spent = refl;
     clock = omega arith;
     used = omega arith;
     finished = refl;
@@ -268,6 +231,7 @@ module _ (M : List ℕ) (c : Core) (u f : ℕ) where
     memory = refl;
     going = refl;
     due = refl;
+    spent = refl;
     clock = refl;
     used = refl;
     finished = omega arith;
@@ -287,6 +251,7 @@ module _ (M : List ℕ) (c : Core) (u f : ℕ) where
     memory = refl;
     going = refl;
     due = refl;
+    spent = refl;
     clock = omega arith;
     used = omega arith;
     finished = omega arith;
@@ -306,6 +271,7 @@ module _ (M : List ℕ) (c : Core) (u f : ℕ) where
     memory = refl;
     going = refl;
     due = refl;
+    spent = refl;
     clock = omega arith;
     used = omega arith;
     finished = omega arith;
@@ -333,94 +299,90 @@ memory-by M v effect e = ap (λ (effect : Effect). applied (effect .store) M) e
 -- a register that takes what it holds
 same-rt : (w : ℕ) (v : Visible) (effect : Effect) → effect .rt ≡ register (v .regs) (fieldT w)
     → changed w effect v
-    ≡ record { regs = v .regs; pc = effect .pc; sp = effect .sp; flags = effect .flags; stop = effect .stop }
+    ≡ visible (v .regs) (effect .pc) (effect .sp) (effect .flags) (effect .stop)
 same-rt w v effect e =
     let same = ap (set (v .regs) (fieldT w)) e ∙ set-getD (v .regs) (fieldT w) 0 in
-    λ j. record { regs = same j; pc = effect .pc; sp = effect .sp; flags = effect .flags; stop = effect .stop }
+    λ j. visible (same j) (effect .pc) (effect .sp) (effect .flags) (effect .stop)
 
+-- the cycles of an instruction come to what it leaves, all of it: by its class
 module _ (M : List ℕ) (c : Core) (u f : ℕ) where
   stop-class : classOf (kind M c) (c .flags) ≡ Stop → Classes Stop M c
-      → Finished (at (ready c) M u f) (cyclesOn (costAt M (visibleOf (ready c))) (at (ready c) M u f))
-  unfolding coreAfter
+      → cyclesOn (takes M (visibleOf (ready c))) (at (ready c) M u f) ≡ pastOne (at (ready c) M u f)
+  unfolding pastOne coreAfter
   stop-class e a =
       let cost = cost-at M c Stop e in
-      let stops = second-stops (stopOf (kind M c)) (kind M c) (after1 M c) (a .0) in
       let v = visibleOf (ready c) in
-      rw cost
-      (rw (one M c u f 1 ∙ then 0 (at (after1 M c) M (u + 1) (f + 0)) _ refl (advance2 M c (u + 1) (f + 0) true _ (last-by M c Stop 2 e) stops) ∙ no-cycle _)
-      (record {
-        visible = sym (after-by M v _ (a .1) ∙ same-rt (word M c) v (stopping (stopOf (kind M c)) (reach (word M c) (past v))) refl);
-        ir = refl;
-        ra = keeps (stopOf (kind M c)) _ (c .ra) (a .0);
-        rb = keeps (stopOf (kind M c)) _ (c .rb) (a .0);
-        ralu = ralu-stays M c e;
-        memory = sym (memory-by M v _ (a .1));
-        due = refl;
-        clock = rw cost (omega arith);
-        used = rw cost (omega arith);
-        finished = omega arith;
-      }))
+      let stops = second-stops (stopOf (kind M c)) (kind M c) (after1 M c) (a .0) in
+      let seen = sym (after-by M v _ (a .1) ∙ same-rt (word M c) v (stopping (stopOf (kind M c)) (reach (word M c) (past v))) refl) in
+      let ra = keeps (stopOf (kind M c)) _ (c .hidden .ra) (a .0) in
+      let rb = keeps (stopOf (kind M c)) _ (c .hidden .rb) (a .0) in
+      let ralu = ralu-stays M c e in
+      let memory = sym (memory-by M v _ (a .1)) in
+      let clock : c .clock .0 + 1 + 1 ≡ c .clock .0 + takes M v = omega (arith, cost) in
+      let used : u + 1 + 1 ≡ u + takes M v = omega (arith, cost) in
+      let finished : f + 0 + 1 ≡ f + 1 = omega arith in
+      ap (λ (n : ℕ). cyclesOn n (at (ready c) M u f)) cost
+      ∙ one M c u f 1
+      ∙ then 0 (at (after1 M c) M (u + 1) (f + 0)) _ refl (advance2 M c (u + 1) (f + 0) true _ (last-by M c Stop 2 e) stops)
+      ∙ no-cycle _
+      ∙ (λ j. at (withClock (clock j) (withDue 1 (withHidden (withRalu (ralu j) (withRaRb (ra j) (rb j) (holding M c))) (withVisible (seen j) c)))) (memory j) (used j) (finished j))
 
   short-class : classOf (kind M c) (c .flags) ≡ Short → Classes Short M c
-      → Finished (at (ready c) M u f) (cyclesOn (costAt M (visibleOf (ready c))) (at (ready c) M u f))
-  unfolding coreAfter
+      → cyclesOn (takes M (visibleOf (ready c))) (at (ready c) M u f) ≡ pastOne (at (ready c) M u f)
+  unfolding pastOne coreAfter
   short-class e a =
       let cost = cost-at M c Short e in
       let v = visibleOf (ready c) in
       let flags = a .1 in
-      rw cost
-      (rw (two M c u f 1 (a .0) (last-by M c Short 2 e) ∙ then 0 (at (after2 M c) M (u + 1 + 1) (f + 0 + 0)) _ refl (advance3 M c (u + 1 + 1) (f + 0 + 0) true (last-by M c Short 3 e)) ∙ no-cycle _)
-      (record {
-        visible =
-            (λ j. record { regs = c .regs; pc = sum (c .pc) 1; sp = c .sp; flags = flags j; stop = Going })
-            ∙ sym (after-by M v _ (a .2) ∙ same-rt (word M c) v (reach (word M c) (past v)) refl);
-        ir = refl;
-        ra = takes (stopOf (kind M c)) _ (c .ra) (a .0);
-        rb = takes (stopOf (kind M c)) _ (c .rb) (a .0);
-        ralu = refl;
-        memory = sym (memory-by M v _ (a .2));
-        due = refl;
-        clock = rw cost (omega arith);
-        used = rw cost (omega arith);
-        finished = omega arith;
-      }))
+      let seen =
+      (λ j. visibleOf (withFlags (flags j) (withPc (sum (c .pc) 1) (ready c))))
+      ∙ sym (after-by M v _ (a .2) ∙ same-rt (word M c) v (reach (word M c) (past v)) refl) in
+      let ra = latches (stopOf (kind M c)) _ (c .hidden .ra) (a .0) in
+      let rb = latches (stopOf (kind M c)) _ (c .hidden .rb) (a .0) in
+      let memory = sym (memory-by M v _ (a .2)) in
+      let clock : c .clock .0 + 1 + 1 + 1 ≡ c .clock .0 + takes M v = omega (arith, cost) in
+      let used : u + 1 + 1 + 1 ≡ u + takes M v = omega (arith, cost) in
+      let finished : f + 0 + 0 + 1 ≡ f + 1 = omega arith in
+      ap (λ (n : ℕ). cyclesOn n (at (ready c) M u f)) cost
+      ∙ two M c u f 1 (a .0) (last-by M c Short 2 e)
+      ∙ then 0 (at (after2 M c) M (u + 1 + 1) (f + 0 + 0)) _ refl (advance3 M c (u + 1 + 1) (f + 0 + 0) true (last-by M c Short 3 e))
+      ∙ no-cycle _
+      ∙ (λ j. at (withClock (clock j) (withDue 1 (withHidden (withRalu (resultOf (word M c) (ready c)) (withRaRb (ra j) (rb j) (holding M c))) (withVisible (seen j) c)))) (memory j) (used j) (finished j))
 
   full-class : classOf (kind M c) (c .flags) ≡ Full → Classes Full M c
-      → Finished (at (ready c) M u f) (cyclesOn (costAt M (visibleOf (ready c))) (at (ready c) M u f))
-  unfolding coreAfter
+      → cyclesOn (takes M (visibleOf (ready c))) (at (ready c) M u f) ≡ pastOne (at (ready c) M u f)
+  unfolding pastOne coreAfter
   full-class e a =
       let cost = cost-at M c Full e in
       let v = visibleOf (ready c) in
-      rw cost
-      (rw (three M c u f 1 (a .0) (last-by M c Full 2 e) (last-by M c Full 3 e) ∙ then 0 (at (after3 M c) M (u + 1 + 1 + 1) (f + 0 + 0 + 0)) _ refl (advance4 M c (u + 1 + 1 + 1) (f + 0 + 0 + 0) (fourth-last M c)) ∙ no-cycle _)
-      (record {
-        visible = sym (after-by M v _ (a .1));
-        ir = refl;
-        ra = takes (stopOf (kind M c)) _ (c .ra) (a .0);
-        rb = takes (stopOf (kind M c)) _ (c .rb) (a .0);
-        ralu = refl;
-        memory = sym (memory-by M v _ (a .1));
-        due = refl;
-        clock = rw cost (omega arith);
-        used = rw cost (omega arith);
-        finished = omega arith;
-      }))
+      let seen = sym (after-by M v _ (a .1)) in
+      let ra = latches (stopOf (kind M c)) _ (c .hidden .ra) (a .0) in
+      let rb = latches (stopOf (kind M c)) _ (c .hidden .rb) (a .0) in
+      let memory = sym (memory-by M v _ (a .1)) in
+      let clock : c .clock .0 + 1 + 1 + 1 + 1 ≡ c .clock .0 + takes M v = omega (arith, cost) in
+      let used : u + 1 + 1 + 1 + 1 ≡ u + takes M v = omega (arith, cost) in
+      let finished : f + 0 + 0 + 0 + 1 ≡ f + 1 = omega arith in
+      ap (λ (n : ℕ). cyclesOn n (at (ready c) M u f)) cost
+      ∙ three M c u f 1 (a .0) (last-by M c Full 2 e) (last-by M c Full 3 e)
+      ∙ then 0 (at (after3 M c) M (u + 1 + 1 + 1) (f + 0 + 0 + 0)) _ refl (advance4 M c (u + 1 + 1 + 1) (f + 0 + 0 + 0) (fourth-last M c))
+      ∙ no-cycle _
+      ∙ (λ j. at (withClock (clock j) (withDue 1 (withHidden (withRalu (resultOf (word M c) (ready c)) (withRaRb (ra j) (rb j) (holding M c))) (withVisible (seen j) c)))) (memory j) (used j) (finished j))
 
 -- the theorem of a progress whose core has 1 and going written out
 abbrev Claim : Progress → Type 0
 Claim p =
-    ((i : ℕ) → i < costAt (p .memory) (visibleOf (p .core)) → Midway i p (cyclesOn i p))
-    × Finished p (cyclesOn (costAt (p .memory) (visibleOf (p .core))) p)
+    ((i : ℕ) → i < takes (p .memory) (visibleOf (p .core)) → Midway i p (cyclesOn i p))
+    × (cyclesOn (takes (p .memory) (visibleOf (p .core))) p ≡ pastOne p)
 
 claim : (M : List ℕ) (c : Core) (u f : ℕ) → Claim (at (ready c) M u f)
 claim M c u f = by (classOf (kind M c) (c .flags)) refl (classes M c)
   where
     middle : (class : Class) → classOf (kind M c) (c .flags) ≡ class → (2 < countOf class → stopOf (kind M c) ≡ Going)
-        → (i : ℕ) → i < costAt M (visibleOf (ready c)) → Midway i (at (ready c) M u f) (cyclesOn i (at (ready c) M u f))
+        → (i : ℕ) → i < takes M (visibleOf (ready c)) → Midway i (at (ready c) M u f) (cyclesOn i (at (ready c) M u f))
     middle class e s =
         let cost = cost-at M c class e in
         let v = visibleOf (ready c) in
-        below-four (λ i. Midway i (at (ready c) M u f) (cyclesOn i (at (ready c) M u f))) (costAt M v)
+        below-four (λ i. Midway i (at (ready c) M u f) (cyclesOn i (at (ready c) M u f))) (takes M v)
         (rw cost (leb-true (countOf class) 4 (four-at-most class)))
         (mid0 M c u f)
         (mid1 M c u f)
@@ -437,14 +399,14 @@ claim M c u f = by (classOf (kind M c) (c .flags)) refl (classes M c)
     by Short e a = let a′ : Classes Short M c = subst (λ (class : Class). Classes class M c) e a in (middle Short e (λ l. a′ .0), short-class M c u f e a′)
     by Full e a = let a′ : Classes Full M c = subst (λ (class : Class). Classes class M c) e a in (middle Full e (λ l. a′ .0), full-class M c u f e a′)
 
-by-parts : (p : Progress) → p .core .stop ≡ Going → p .core .due ≡ 1 → Claim p
+by-parts : (p : Progress) → p .core .stop ≡ Going → dueOne (p .core) ≡ true → Claim p
 by-parts p g d =
     let e = ap (λ (c : Core). at c (p .memory) (p .used) (p .finished)) (is-ready (p .core) g d) in
     subst Claim (sym e) (claim (p .memory) (p .core) (p .used) (p .finished))
 
-pub one-finished : (p : Progress) → p .core .stop ≡ Going → p .core .due ≡ 1
-    → Finished p (cyclesOn (costAt (p .memory) (visibleOf (p .core))) p)
-one-finished p g d = by-parts p g d .1
-
 pub one-instruction : OneInstruction
-one-instruction p g d = (by-parts p g d .0, whole p _ (one-finished p g d))
+one-instruction p g d = by-parts p g d
+
+pub one-finished : (p : Progress) → p .core .stop ≡ Going → dueOne (p .core) ≡ true
+    → Finished p (cyclesOn (takes (p .memory) (visibleOf (p .core))) p)
+one-finished p g d = parts p _ (by-parts p g d .1)

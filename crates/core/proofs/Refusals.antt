@@ -14,13 +14,15 @@ use Rattle.listing.specs.Listing.{listingAnswer}
 use Rattle.listing.proofs.Theorems.{refused-unchanged as listing-unchanged}
 use Rattle.effects.specs.declared.Stop.{Stop}
 use Rattle.effects.specs.declared.Stop.the-variants.{Going, Halted, Undefined}
+use Rattle.core.specs.Spent.{dueOne, dueInRange}
 use Rattle.core.specs.Numbers.{wrongLength, isGoing, clockFull, firstNumber, loadNumber, runNumber, stepNumber, viewNumber}
-use Rattle.core.specs.Calls.{Answer, refusedAt, stored, ran, viewed, refused, dueOne, dueInRange, Reply, unless, loadAnswer, loadedReply, viewedReply, ranReply, steppedReply, cyclesOn, starting, reset, load, view, run, step}
+use Rattle.core.specs.Calls.{Answer, refusedAt, stored, ran, viewed, refused, Reply, unless, loadAnswer, loadedReply, viewedReply, ranReply, steppedReply, cyclesOn, starting, reset, load, view, run, step}
 use Rattle.core.specs.TheoremsOfCalls.{First, Taken, loadNumbers, runNumbers, stepNumbers, viewNumbers, NumbersExactly, RefusalsUnchanged}
 use Rattle.core.specs.State.{Visible, visibleOf}
-use Rattle.core.specs.Instruction.{costAt, instructed}
+use Rattle.core.specs.Instruction.{takes, instructed}
 use Rattle.core.specs.declared.Core.{Core}
 use Rattle.core.specs.declared.End.{End}
+use Rattle.core.proofs.Spent.{due-when-one, one-when-due}
 
 -- a test means a statement
 abbrev Means : Bool → Type 0 → Type 0
@@ -103,16 +105,6 @@ ready L stop dueRight clock b e =
       room = ltb-false 4294967295 (clock + b) (room .0);
     }
 
-in-range : (low high : Bool) → cond low high false ≡ true → (low ≡ true) × (high ≡ true)
-in-range true true e = (refl, refl)
-in-range true false e = absurd (clash e refl)
-in-range false high e = absurd (clash e refl)
-
-pub due-when : (core : Core) → dueInRange core ≡ true → (1 ≤ core .due) × (core .due ≤ 4)
-due-when core e =
-    let r = in-range (leb 1 (core .due)) (leb (core .due) 4) e in
-    (leb-true 1 (core .due) (r .0), leb-true (core .due) 4 (r .1))
-
 -- what the tests mean
 length-by : (L : ℕ) (zero long : Bool) → eqb L 0 ≡ zero → ltb 65536 L ≡ long → Means (cond zero true long) ((L ≡ 0) ⊎ (65536 < L))
 length-by L true long z l = (λ _. inl (eqb-true L 0 z), λ e. absurd (clash refl e))
@@ -131,12 +123,11 @@ stop-means Going = (λ e. absurd (clash e refl), λ e n. n refl)
 stop-means Halted = (λ e g. let z : _≡_ {A = ℕ} 0 1 = cc in omega arith, λ e. absurd (clash refl e))
 stop-means Undefined = (λ e g. let z : _≡_ {A = ℕ} 0 1 = cc in omega arith, λ e. absurd (clash refl e))
 
-one-by : (due : ℕ) (one : Bool) → eqb due 1 ≡ one → Means (not one) (due ≡ 1 → ⊥)
-one-by due true h = (λ e. absurd (clash e refl), λ e n. n (eqb-true due 1 h))
-one-by due false h = (λ e. eqb-false due 1 h, λ e. absurd (clash refl e))
-
 one-means : (core : Core) → Means (not (dueOne core)) (core .due ≡ 1 → ⊥)
-one-means core = one-by (core .due) (eqb (core .due) 1) refl
+one-means core = (
+  λ e d. clash (one-when-due core d) (not-true (dueOne core) e),
+  λ e n. n (due-when-one core (not-false (dueOne core) e)),
+)
 
 clock-means : (clock b : ℕ) → Means (clockFull clock b) (4294967295 < clock + b)
 clock-means clock b = (λ e. ltb-true 4294967295 (clock + b) e, λ e l. clash (lt-ltb 4294967295 (clock + b) l) e)
@@ -273,6 +264,6 @@ refusals-unchanged core memory n offset b text = (
   unchanged n (runNumber (length memory) (core .stop) (dueInRange core) (core .clock .0) b) core memory
       (ranReply (cyclesOn b (starting core memory))) (ran-never n _ _ _),
   unchanged n (stepNumber (length memory) (core .stop) (dueOne core) (core .clock .0)) core memory
-      (steppedReply (costAt memory (visibleOf core)) (instructed memory core) memory) (ran-never n _ _ _),
+      (steppedReply (takes memory (visibleOf core)) (instructed memory core) memory) (ran-never n _ _ _),
   unchanged n (viewNumber (dueOne core)) core memory (viewedReply core memory) (viewed-never n _ _ _),
 )

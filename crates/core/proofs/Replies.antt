@@ -2,7 +2,7 @@
 use mathlib.Core.Path.{_≡_, refl, sym, ap, _∙_}
 use mathlib.Core.Bool.{Bool, true, false, cond, not}
 use mathlib.Core.List.{List, [], _∷_}
-use Prim.Native.Nat.{ℕ, _+_, _-_, _≤_, _<_}
+use Prim.Native.Nat.{ℕ, _-_, _≤_}
 use native.Mathlib.Omega.{arith}
 use lib.Dec.{lit≤}
 use lib.ListN.{length, length-set}
@@ -11,16 +11,15 @@ use Rattle.effects.specs.Effect.{applied}
 use Rattle.effects.specs.declared.Store.{Store}
 use Rattle.effects.specs.declared.Store.the-variants.{Nothing, Word}
 use Rattle.core.specs.State.{visibleOf}
-use Rattle.core.specs.Instruction.{costAt, instructed}
-use Rattle.core.specs.Datapath.{cycled}
-use Rattle.core.specs.Numbers.{isGoing, firstNumber, runNumber, stepNumber, viewNumber}
-use Rattle.core.specs.Calls.{refused, Reply, unless, dueOne, dueInRange, Progress, advanced, advancedBy, cyclesOn, starting, ranReply, steppedReply, viewedReply, run, step, view}
+use Rattle.core.specs.Instruction.{takes, instructed}
+use Rattle.core.specs.Spent.{dueOne, dueInRange}
+use Rattle.core.specs.Numbers.{firstNumber, runNumber, stepNumber, viewNumber}
+use Rattle.core.specs.Calls.{refused, Reply, unless, Progress, cyclesOn, starting, ranReply, steppedReply, viewedReply, run, step, view}
 use Rattle.core.specs.Answers.{refusalNumber}
 use Rattle.core.specs.declared.Core.{Core}
-use Rattle.core.specs.declared.Turn.{Turn}
 use Rattle.core.specs.declared.Refusal.{Refusal}
 use Rattle.core.specs.declared.Refusal.the-variants.{WrongLength, WrongCycle, Stopped, ClockFull}
-use Rattle.core.proofs.Cycles.{one-more, no-cycle}
+use Rattle.core.proofs.Cycles.{no-cycle}
 use Rattle.core.proofs.Refusals.{none-applies, not-false}
 use Rattle.core.proofs.Taken.{reply-own}
 
@@ -61,10 +60,10 @@ run-starts b core memory e =
     ∙ ap (λ (n : ℕ). ranReply (cyclesOn n (starting core memory))) (omega arith)
 
 pub step-starts : (core : Core) (memory : List ℕ) → runNumber (length memory) (core .stop) (dueOne core) (core .clock .0) 4 ≡ 0
-    → step core memory ≡ steppedReply (costAt memory (visibleOf core)) (instructed memory core) memory
+    → step core memory ≡ steppedReply (takes memory (visibleOf core)) (instructed memory core) memory
 unfolding step stepNumber
 step-starts core memory e =
-    reply-own _ core memory (steppedReply (costAt memory (visibleOf core)) (instructed memory core) memory) e
+    reply-own _ core memory (steppedReply (takes memory (visibleOf core)) (instructed memory core) memory) e
 
 -- a run that has done its cycles
 pub run-over : (b : ℕ) (p : Progress) → b ≤ p .used → cyclesOn (b - p .used) p ≡ p

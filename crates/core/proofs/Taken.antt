@@ -1,22 +1,29 @@
 -- The theorems `RunTaken`, `StepTaken` and `OthersTaken` of specs/TheoremsOfCalls.antt: where no number applies the reply is the call's own.
 use mathlib.Core.Path.{_≡_, refl, sym, ap, _∙_}
-use mathlib.Core.Bool.{true, not}
+use mathlib.Core.Logic.{_⊎_, inl, inr}
+use mathlib.Core.Bool.{Bool, true, false, not, cond}
 use mathlib.Core.List.{List, []}
-use Prim.Native.Nat.{ℕ, _+_, _≤_}
+use Prim.Native.Nat.{ℕ, _+_, _≤_, _<_}
 use native.Mathlib.Omega.{arith}
 use native.Mathlib.Nat.{zero-add, add-zero}
-use borrow.Author.Tests.{eq-eqb, eqb-true, le-ltb}
+use borrow.Author.Tests.{eq-eqb, le-ltb}
 use lib.ListN.{length}
 use Rattle.effects.specs.declared.Stop.the-variants.{Going}
-use Rattle.core.specs.State.{visibleOf, between}
-use Rattle.core.specs.Instruction.{after, memoryAfter, costAt, instructed}
-use Rattle.core.specs.Numbers.{isGoing, firstNumber, loadNumber, runNumber, stepNumber, viewNumber}
-use Rattle.core.specs.Calls.{ran, viewed, cyclesOn, starting, endOf, dueOne, dueInRange, Reply, unless, loadAnswer, loadedReply, viewedReply, ranReply, steppedReply, reset, load, view, run, step}
-use Rattle.core.specs.TheoremsOfCalls.{Taken, loadNumbers, runNumbers, stepNumbers, viewNumbers, RunTaken, StepTaken, OthersTaken}
+use Rattle.effects.specs.Hidden.{noHidden}
+use Rattle.core.specs.State.{withHidden, visibleOf}
+use Rattle.core.specs.Spent.{dueOne, dueInRange}
+use Rattle.core.specs.Instruction.{after, memoryAfter, takes, coreAfter, instructed}
+use Rattle.core.specs.AtOnce.{pastOne}
+use Rattle.core.specs.Datapath.{idle, cycled, oneCycle}
+use Rattle.core.specs.Numbers.{isGoing, clockFull, firstNumber, loadNumber, runNumber, stepNumber, viewNumber}
+use Rattle.core.specs.Calls.{ran, viewed, Progress, advancedBy, advanced, cyclesOn, starting, endOf, Reply, unless, loadAnswer, loadedReply, viewedReply, ranReply, steppedReply, reset, load, view, run, step}
+use Rattle.core.specs.TheoremsOfCalls.{Taken, loadNumbers, runNumbers, stepNumbers, viewNumbers, RunTaken, CycleExactly, StepTaken, OthersTaken}
 use Rattle.core.specs.declared.Core.{Core}
-use Rattle.core.proofs.Cycles.{only-going, cost-range}
-use Rattle.core.proofs.OneInstruction.{one-finished}
-use Rattle.core.proofs.Refusals.{none-found, none-applies, not-false, Ready, ready, due-when, load-found, run-found, step-found, view-found}
+use Rattle.core.specs.declared.Turn.{Turn}
+use Rattle.core.proofs.Spent.{due-when-one, range-when-one}
+use Rattle.core.proofs.Cycles.{later, no-cycle-due, within-clock, full-clock, one-more, no-cycle, only-going, cost-range}
+use Rattle.core.proofs.OneInstruction.{one-instruction, one-finished}
+use Rattle.core.proofs.Refusals.{none-found, none-applies, not-false, Ready, ready, load-found, run-found, step-found, view-found}
 use Rattle.core.proofs.Endings.{letter, budget, clock-moves}
 
 pub reply-own : (number : ℕ) (core : Core) (memory : List ℕ) (reply : Reply) → number ≡ 0 → unless number core memory reply ≡ reply
@@ -31,8 +38,8 @@ module _ (core : Core) (memory : List ℕ) (b : ℕ) (taken : Taken (runNumbers 
   unfolding run
   run-own = reply-own _ core memory (ranReply (cyclesOn b (starting core memory))) no-run-number
 
-  run-due : (1 ≤ core .due) × (core .due ≤ 4)
-  run-due = due-when core (ready _ _ _ _ _ no-run-number .due)
+  run-due : dueInRange core ≡ true
+  run-due = ready _ _ _ _ _ no-run-number .due
 
 pub run-taken : RunTaken
 run-taken core memory b taken =
@@ -47,8 +54,40 @@ run-taken core memory b taken =
       rw own (letter (q .core)),
       omega (arith, most .0),
       rw own (λ g. most .1 (ap isGoing g) ∙ zero-add b),
-      rw own (sym (add-zero (q .core .clock .0)) ∙ clock-moves b (starting core memory) (due .0) (due .1)),
+      rw own (sym (add-zero (q .core .clock .0)) ∙ clock-moves b (starting core memory) due),
     )
+
+-- where no cycle is done
+none-due : (core : Core) (memory : List ℕ) → (core .due < 1) ⊎ (4 < core .due) → cycled memory core ≡ idle core
+none-due core memory (inl low) =
+    later memory core (λ e. omega arith)
+    ∙ no-cycle-due memory core _ (λ e. omega arith) (λ e. omega arith) (λ e. omega arith)
+none-due core memory (inr high) =
+    later memory core (λ e. omega arith)
+    ∙ no-cycle-due memory core _ (λ e. omega arith) (λ e. omega arith) (λ e. omega arith)
+
+none-done : (core : Core) (memory : List ℕ) → (4294967295 ≤ core .clock .0) ⊎ ((core .due < 1) ⊎ (4 < core .due))
+    → oneCycle memory core ≡ idle core
+unfolding oneCycle
+none-done core memory (inl full) = full-clock memory core full
+none-done core memory (inr out) =
+    ap (cond (clockFull (core .clock .0) 1) (idle core)) (none-due core memory out) ∙ by (clockFull (core .clock .0) 1)
+  where
+    by : (full : Bool) → cond full (idle core) (idle core) ≡ idle core
+    by true = refl
+    by false = refl
+
+pub cycle-exactly : CycleExactly
+unfolding advanced
+cycle-exactly core memory = (
+  λ taken. let number = no-run-number core memory 1 taken in
+      let r = ready _ _ _ _ _ number in
+      let room = r .room in
+      run-own core memory 1 taken
+      ∙ ap ranReply (one-more 0 (starting core memory) (r .going) ∙ no-cycle (advanced (starting core memory)))
+      ∙ ap (λ (t : Turn). ranReply (advancedBy t (starting core memory))) (sym (within-clock memory core (omega arith))),
+  λ out. none-done core memory out,
+)
 
 -- a step asks for more than a run of its instruction's cost
 module _ (core : Core) (memory : List ℕ) (taken : Taken (stepNumbers core memory)) where
@@ -56,9 +95,9 @@ module _ (core : Core) (memory : List ℕ) (taken : Taken (stepNumbers core memo
   unfolding stepNumber runNumber
   no-step-number = none-found _ (stepNumbers core memory) (λ n. step-found core memory n) taken
 
-  step-own : step core memory ≡ steppedReply (costAt memory (visibleOf core)) (instructed memory core) memory
+  step-own : step core memory ≡ steppedReply (takes memory (visibleOf core)) (instructed memory core) memory
   unfolding step
-  step-own = reply-own _ core memory (steppedReply (costAt memory (visibleOf core)) (instructed memory core) memory) no-step-number
+  step-own = reply-own _ core memory (steppedReply (takes memory (visibleOf core)) (instructed memory core) memory) no-step-number
 
   step-ready : Ready (length memory) (core .stop) (dueOne core) (core .clock .0) 4
   unfolding stepNumber
@@ -67,46 +106,47 @@ module _ (core : Core) (memory : List ℕ) (taken : Taken (stepNumbers core memo
   step-going : core .stop ≡ Going
   step-going = only-going (core .stop) (step-ready .going)
 
-  step-due : core .due ≡ 1
-  step-due = eqb-true (core .due) 1 (step-ready .due)
+  step-due : dueOne core ≡ true
+  step-due = step-ready .due
 
   no-run-number-of-cost :
-      runNumber (length memory) (core .stop) (dueInRange core) (core .clock .0) (costAt memory (visibleOf core)) ≡ 0
+      runNumber (length memory) (core .stop) (dueInRange core) (core .clock .0) (takes memory (visibleOf core)) ≡ 0
   unfolding runNumber firstNumber
   no-run-number-of-cost =
       let r = step-ready in
       let few = cost-range memory (visibleOf core) .1 in
       let room = r .room in
-      let full = le-ltb 4294967295 (core .clock .0 + costAt memory (visibleOf core)) (omega arith) in
-      rw (full, r .size, step-going, step-due)
+      let full = le-ltb 4294967295 (core .clock .0 + takes memory (visibleOf core)) (omega arith) in
+      rw (full, r .size, step-going, range-when-one core step-due)
 
-  run-of-cost : run (costAt memory (visibleOf core)) core memory
-      ≡ ranReply (cyclesOn (costAt memory (visibleOf core)) (starting core memory))
+  run-of-cost : run (takes memory (visibleOf core)) core memory
+      ≡ ranReply (cyclesOn (takes memory (visibleOf core)) (starting core memory))
   unfolding run
-  run-of-cost = reply-own _ core memory (ranReply (cyclesOn (costAt memory (visibleOf core)) (starting core memory))) no-run-number-of-cost
+  run-of-cost = reply-own _ core memory (ranReply (cyclesOn (takes memory (visibleOf core)) (starting core memory))) no-run-number-of-cost
 
 pub step-taken : StepTaken
-unfolding instructed memoryAfter
+unfolding instructed memoryAfter pastOne coreAfter
 step-taken core memory taken =
     let v = visibleOf core in
+    let whole = one-instruction (starting core memory) (step-going core memory taken) (step-due core memory taken) .1 in
     let f = one-finished (starting core memory) (step-going core memory taken) (step-due core memory taken) in
-    let q = cyclesOn (costAt memory v) (starting core memory) in
+    let q = cyclesOn (takes memory v) (starting core memory) in
     let stepped = step-own core memory taken in
     let ranned = run-of-cost core memory taken in
-    let cycles = f .used ∙ zero-add (costAt memory v) in
+    let cycles = f .used ∙ zero-add (takes memory v) in
     let finished = f .finished in
     let visible = f .visible in
-    let clock = f .clock in
-    let one = eq-eqb (q .core .due) 1 (f .due) in
-    let answer : ranReply q .answer ≡ steppedReply (costAt memory v) (instructed memory core) memory .answer =
+    let one = f .due in
+    let due = due-when-one (q .core) one in
+    let answer : ranReply q .answer ≡ steppedReply (takes memory v) (instructed memory core) memory .answer =
     λ j. ran (cycles j) (finished j) (endOf (visible j .stop) (one j)) in (
       endOf (after memory v .stop) true,
       ap (λ (r : Reply). r .answer) stepped,
       rw stepped (letter (instructed memory core .core)),
       rw (ranned, stepped) answer,
       rw (ranned, stepped) (f .memory),
-      rw ranned (f .due),
-      rw (ranned, stepped) (sym (λ j. between (visible j) (clock j))),
+      rw ranned due,
+      rw (ranned, stepped) (sym (ap (λ (p : Progress). withHidden noHidden (p .core)) whole)),
     )
 
 pub others-taken : OthersTaken
@@ -121,7 +161,7 @@ others-taken core memory text = (
       ),
   λ taken. let none = none-found _ (viewNumbers core) (view-found core memory) taken in
       let own = reply-own _ core memory (viewedReply core memory) none in
-      let due = eqb-true (core .due) 1 (not-false (dueOne core) (none-applies 6 (not (dueOne core)) [] none .0)) in (
+      let due = due-when-one core (not-false (dueOne core) (none-applies 6 (not (dueOne core)) [] none .0)) in (
         ap (λ (r : Reply). r .answer) own ∙ ap (λ (n : ℕ). viewed (visibleOf core) n (core .clock .0)) due,
         ap (λ (r : Reply). r .memory) own,
         ap (λ (r : Reply). r .core) own,

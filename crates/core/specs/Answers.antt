@@ -2,6 +2,7 @@
 use mathlib.Core.List.{List}
 use Prim.Native.Nat.{ℕ}
 use Rattle.listing.specs.Answers.{faultNumber}
+use Rattle.core.specs.State.{visible}
 use Rattle.core.specs.Calls.{Answer, done, stored, ran, viewed, refused, refusedAt, Reply}
 use Rattle.core.specs.declared.Core.{Core}
 use Rattle.core.specs.declared.Refusal.{Refusal}
@@ -44,7 +45,7 @@ runAnswerOf (running.Refused why) = refused (refusalNumber why)
 
 abbrev pub viewAnswerOf : ViewAnswer → Snapshot → Answer
 viewAnswerOf viewing.Viewed s =
-    viewed (record { regs = s .regs; pc = s .pc; sp = s .sp; flags = s .flags; stop = s .stop }) (s .due) (s .clock .0)
+    viewed (visible (s .regs) (s .pc) (s .sp) (s .flags) (s .stop)) (s .due) (s .clock .0)
 viewAnswerOf (viewing.Refused why) s = refused (refusalNumber why)
 
 -- what view shows of a core: all but the hidden registers

@@ -4,78 +4,65 @@ use mathlib.Core.Bool.{Bool, false, cond}
 use mathlib.Core.List.{List}
 use Prim.Native.Nat.{ℕ, zero, suc, _+_, _-_}
 use lib.Dec.{leb}
+use lib.ListN.{set}
 use Rattle.words.specs.Arithmetic.{sum}
-use Rattle.isa.specs.Fields.{fieldT, fieldA, fieldB}
-use Rattle.isa.specs.Control.{secondRegister}
-use Rattle.isa.specs.Cost.{costOf}
+use Rattle.isa.specs.Fields.{fieldT, fieldB}
+use Rattle.isa.specs.declared.Flags.{Flags}
 use Rattle.isa.specs.declared.Kind.{Kind}
-use Rattle.effects.specs.Cycles.{stopOf, atOnce}
+use Rattle.table.specs.Table.{kindOf}
+use Rattle.effects.specs.Effect.{untouched}
+use Rattle.effects.specs.Cycles.{stopOf, hiddenAfter, atOnce}
 use Rattle.effects.specs.declared.Effect.{Effect}
 use Rattle.effects.specs.declared.Executed.{Executed}
+use Rattle.effects.specs.declared.Hidden.{Hidden}
 use Rattle.effects.specs.declared.Stop.{Stop}
-use Rattle.effects.specs.declared.Store.the-variants.{Nothing}
-use Rattle.core.specs.State.{visibleOf, register}
-use Rattle.core.specs.Instruction.{memoryAfter, costAt, unlessStopping, coreAfter}
-use Rattle.core.specs.Numbers.{isGoing}
-use Rattle.core.specs.Calls.{Progress, advanced, dueOne}
+use Rattle.core.specs.State.{withHidden, withClock, Visible, visible, visibleOf, withVisible, register, raOf, rbOf}
+use Rattle.core.specs.Spent.{dueOne}
+use Rattle.core.specs.Instruction.{wordDue, memoryAfter, takes, coreAfter}
+use Rattle.core.specs.Numbers.{isGoing, longest}
+use Rattle.core.specs.Calls.{Progress, advanced}
 use Rattle.core.specs.declared.Core.{Core}
 use Rattle.core.specs.declared.State.{State}
 use Rattle.core.specs.declared.Advance.{Advance}
 
--- a core with cycle 1 due, of its two parts; and one without its bank
-abbrev pub coreOf : State → List ℕ → Core
-coreOf s regs =
-    record {
-      regs = regs;
-      pc = s .pc;
-      sp = s .sp;
-      flags = s .flags;
-      ir = s .ir;
-      ra = s .ra;
-      rb = s .rb;
-      ralu = s .ralu;
-      due = 1;
-      stop = s .stop;
-      clock = s .clock;
-    }
+-- a core without its bank; what an instruction sees of the two; and the core of the two, with all else as it is in `core`
+abbrev pub stateOf : ℕ → ℕ → Flags → Hidden → Stop → ℕ → State
+stateOf pc sp flags hidden stop clock =
+    record { pc = pc; sp = sp; flags = flags; hidden = hidden; stop = stop; clock = record { 0 = clock } }
 
 abbrev pub restOf : Core → State
-restOf core =
-    record {
-      pc = core .pc;
-      sp = core .sp;
-      flags = core .flags;
-      ir = core .ir;
-      ra = core .ra;
-      rb = core .rb;
-      ralu = core .ralu;
-      stop = core .stop;
-      clock = core .clock;
-    }
+restOf core = stateOf (core .pc) (core .sp) (core .flags) (core .hidden) (core .stop) (core .clock .0)
+
+abbrev pub seen : State → List ℕ → Visible
+seen s regs = visible regs (s .pc) (s .sp) (s .flags) (s .stop)
+
+abbrev pub joined : Core → State → List ℕ → Core
+joined core s regs = withClock (s .clock .0) (withHidden (s .hidden) (withVisible (seen s regs) core))
 
 -- what an instruction can change, with PC one past it
 abbrev pub beforeOf : State → ℕ → Effect
-beforeOf s rt =
-    record { rt = rt; pc = sum (s .pc) 1; sp = s .sp; flags = s .flags; stop = s .stop; store = Nothing }
+beforeOf s rt = untouched rt (sum (s .pc) 1) (s .sp) (s .flags) (s .stop)
 
--- the instruction w by the table, on the registers that it names; and the state after it
+-- the instruction w by the table, on the registers that it names; and the state after it and its cycles
 abbrev pub executedOf : Kind → ℕ → List ℕ → List ℕ → State → Executed
 executedOf k w regs M s =
-    atOnce k w (register regs (fieldA w)) (register regs (fieldB w)) (s .ralu) M (beforeOf s (register regs (fieldT w)))
+    atOnce k w (raOf w regs) (register regs (fieldB w)) (s .hidden) M (beforeOf s (register regs (fieldT w)))
 
-abbrev pub stateAfter : Kind → ℕ → List ℕ → Executed → State → State
-stateAfter k w regs done s =
-    record {
-      pc = done .effect .pc;
-      sp = done .effect .sp;
-      flags = done .effect .flags;
-      ir = w;
-      ra = unlessStopping (stopOf k) (register regs (fieldA w)) (s .ra);
-      rb = unlessStopping (stopOf k) (register regs (secondRegister k (fieldT w) (fieldB w))) (s .rb);
-      ralu = done .ralu;
-      stop = done .effect .stop;
-      clock = record { 0 = s .clock .0 + costOf k (s .flags) };
-    }
+abbrev pub stateAfter : Kind → ℕ → List ℕ → Executed → ℕ → State → State
+stateAfter k w regs done cycles s =
+    stateOf (done .effect .pc) (done .effect .sp) (done .effect .flags)
+    (hiddenAfter (stopOf k) w (raOf w regs) (rbOf k w regs) (done .ralu) (s .hidden)) (done .effect .stop) (s .clock .0 + cycles)
+
+-- the instruction at PC: what it does; state and bank after it
+abbrev pub doneOn : List ℕ → List ℕ → State → Executed
+doneOn M regs s = executedOf (kindOf (wordDue M (seen s regs))) (wordDue M (seen s regs)) regs M s
+
+abbrev pub stateOn : List ℕ → List ℕ → State → State
+stateOn M regs s =
+    stateAfter (kindOf (wordDue M (seen s regs))) (wordDue M (seen s regs)) regs (doneOn M regs s) (takes M (seen s regs)) s
+
+abbrev pub bankOn : List ℕ → List ℕ → State → List ℕ
+bankOn M regs s = set regs (fieldT (wordDue M (seen s regs))) (doneOn M regs s .effect .rt)
 
 -- p past the instruction at PC
 unfoldable pub pastOne : Progress → Progress
@@ -83,23 +70,23 @@ pastOne p =
     record {
       core = coreAfter (p .memory) (p .core);
       memory = memoryAfter (p .memory) (visibleOf (p .core));
-      used = p .used + costAt (p .memory) (visibleOf (p .core));
+      used = p .used + takes (p .memory) (visibleOf (p .core));
       finished = p .finished + 1;
     }
 
 -- is the core going, and does the next instruction fit into what is left, whatever it costs?
 abbrev pub goesOn : Stop → ℕ → Bool
-goesOn stop left = cond (leb 4 left) (isGoing stop) false
+goesOn stop left = cond (leb longest left) (isGoing stop) false
 
--- at most n instructions, each where the core is going and 4 cycles of b are left. With b for n there is no other bound, since each takes 2
--- cycles or more
+-- at most n instructions, each where the core is going and b has room for one. With b for n there is no other bound, since each takes 2 cycles
+-- or more
 unfoldable pub instructionsOn : ℕ → ℕ → Progress → Progress
 instructionsOn zero b p = p
 instructionsOn (suc n) b p = cond (goesOn (p .core .stop) (b - p .used)) (instructionsOn n b (pastOne p)) p
 
 -- a turn of run's loop with b cycles left, from a p that has used none
 abbrev pub ahead : ℕ → Progress → Progress
-ahead b p = cond (dueOne (p .core)) (cond (leb 4 b) (instructionsOn b b p) (advanced p)) (advanced p)
+ahead b p = cond (dueOne (p .core)) (cond (leb longest b) (instructionsOn b b p) (advanced p)) (advanced p)
 
 -- how far code has come, with the memory as it then is
 abbrev pub reached : Advance → List ℕ → Progress

@@ -3,7 +3,7 @@
 use mathlib.Core.Bool.{Bool, true, false, cond}
 use mathlib.Core.List.{List}
 use Prim.Native.Nat.{ℕ, zero, suc, _+_}
-use lib.Dec.{eqb, leb}
+use lib.Dec.{eqb}
 use lib.ListN.{length}
 use Rattle.words.specs.Arithmetic.{bit}
 use Rattle.listing.specs.Answers as listing
@@ -12,8 +12,9 @@ use Rattle.effects.specs.Effect.{applied}
 use Rattle.effects.specs.declared.Stop.{Stop}
 use Rattle.effects.specs.declared.Stop.the-variants.{Going, Halted, Undefined}
 use Rattle.core.specs.State.{Visible, visibleOf, freshCore}
+use Rattle.core.specs.Spent.{dueOne, dueInRange}
 use Rattle.core.specs.Datapath.{cycled}
-use Rattle.core.specs.Instruction.{costAt, instructed}
+use Rattle.core.specs.Instruction.{takes, instructed}
 use Rattle.core.specs.Numbers.{isGoing, loadNumber, runNumber, stepNumber, viewNumber}
 use Rattle.core.specs.declared.Core.{Core}
 use Rattle.core.specs.declared.Turn.{Turn}
@@ -40,13 +41,6 @@ abbrev pub endOf : Stop → Bool → End
 endOf Going oneDue = goingEnd oneDue
 endOf Halted oneDue = H
 endOf Undefined oneDue = U
-
--- is cycle 1 due; is one of 1 to 4
-abbrev pub dueOne : Core → Bool
-dueOne core = eqb (core .due) 1
-
-abbrev pub dueInRange : Core → Bool
-dueInRange core = cond (leb 1 (core .due)) (leb (core .due) 4) false
 
 -- what a call gives back
 pub record Reply : Type 0 where
@@ -130,9 +124,9 @@ run b core memory =
 
 -- 'step of one instruction by the instruction engine'; 'Step answers the same'
 abbrev pub steppedReply : ℕ → Turn → List ℕ → Reply
-steppedReply cost turn memory =
+steppedReply cycles turn memory =
     record {
-      answer = ran cost 1 (endOf (turn .core .stop) (dueOne (turn .core)));
+      answer = ran cycles 1 (endOf (turn .core .stop) (dueOne (turn .core)));
       core = turn .core;
       memory = applied (turn .store) memory;
     }
@@ -140,4 +134,4 @@ steppedReply cost turn memory =
 unfoldable pub step : Core → List ℕ → Reply
 step core memory =
     unless (stepNumber (length memory) (core .stop) (dueOne core) (core .clock .0)) core memory
-    (steppedReply (costAt memory (visibleOf core)) (instructed memory core) memory)
+    (steppedReply (takes memory (visibleOf core)) (instructed memory core) memory)

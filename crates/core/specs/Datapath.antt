@@ -5,12 +5,11 @@ use Prim.Native.Nat.{ℕ, _+_}
 use lib.Dec.{eqb, leb}
 use Rattle.words.specs.Memory.{wordAt}
 use Rattle.words.specs.Arithmetic.{sum}
-use Rattle.isa.specs.Fields.{fieldT, fieldA, fieldB}
-use Rattle.isa.specs.Control.{secondRegister}
 use Rattle.isa.specs.Cost.{costOf}
 use Rattle.isa.specs.declared.Kind.{Kind}
 use Rattle.table.specs.Table.{kindOf}
 use Rattle.alu.specs.declared.Outcome.{Outcome}
+use Rattle.effects.specs.Hidden.{withIr, withRaRb, withRalu}
 use Rattle.effects.specs.Cycles.{stopOf, calculated, writtenBack}
 use Rattle.effects.specs.declared.Effect.{Effect}
 use Rattle.effects.specs.declared.Stop.{Stop}
@@ -18,59 +17,19 @@ use Rattle.effects.specs.declared.Stop as stop
 use Rattle.effects.specs.declared.Stop.the-variants.{Going, Halted}
 use Rattle.effects.specs.declared.Store.{Store}
 use Rattle.effects.specs.declared.Store.the-variants.{Nothing}
-use Rattle.core.specs.State.{Visible, visibleOf, register, reach, changed}
+use Rattle.core.specs.State.{withPc, withFlags, withHidden, withDue, stopped, withClock, visibleOf, withVisible, raOf, rbOf, reach, changed}
+use Rattle.core.specs.Numbers.{clockFull}
 use Rattle.core.specs.declared.Core.{Core}
 use Rattle.core.specs.declared.Turn.{Turn}
 
 -- 1. 'IR takes M(PC); PC+1.'
 abbrev pub fetched : List ℕ → Core → Core
-fetched M core =
-    record {
-      regs = core .regs;
-      pc = sum (core .pc) 1;
-      sp = core .sp;
-      flags = core .flags;
-      ir = wordAt M (core .pc);
-      ra = core .ra;
-      rb = core .rb;
-      ralu = core .ralu;
-      due = core .due;
-      stop = core .stop;
-      clock = core .clock;
-    }
+fetched M core = withHidden (withIr (wordAt M (core .pc)) (core .hidden)) (withPc (sum (core .pc) 1) core)
 
--- 2. 'RA takes Ra; RB takes Rt for ADDI, SUBI, LDL, LDH, PUSH, else Rb', by the fields of IR
+-- 2. RA and RB are latched, by the fields of IR
 abbrev pub latched : Kind → Core → Core
 latched kind core =
-    record {
-      regs = core .regs;
-      pc = core .pc;
-      sp = core .sp;
-      flags = core .flags;
-      ir = core .ir;
-      ra = register (core .regs) (fieldA (core .ir));
-      rb = register (core .regs) (secondRegister kind (fieldT (core .ir)) (fieldB (core .ir)));
-      ralu = core .ralu;
-      due = core .due;
-      stop = core .stop;
-      clock = core .clock;
-    }
-
-abbrev pub stopped : Stop → Core → Core
-stopped s core =
-    record {
-      regs = core .regs;
-      pc = core .pc;
-      sp = core .sp;
-      flags = core .flags;
-      ir = core .ir;
-      ra = core .ra;
-      rb = core .rb;
-      ralu = core .ralu;
-      due = core .due;
-      stop = s;
-      clock = core .clock;
-    }
+    withHidden (withRaRb (raOf (core .hidden .ir) (core .regs)) (rbOf kind (core .hidden .ir) (core .regs)) (core .hidden)) core
 
 -- 'HALT or undefined: stop .. Otherwise' the registers are latched
 abbrev pub second : Stop → Kind → Core → Core
@@ -80,48 +39,18 @@ second stop.the-variants.Undefined kind core = stopped stop.the-variants.Undefin
 
 -- 3. RALU takes the value, 'Flags change here'
 abbrev pub withResult : Outcome → Core → Core
-withResult outcome core =
-    record {
-      regs = core .regs;
-      pc = core .pc;
-      sp = core .sp;
-      flags = outcome .flags;
-      ir = core .ir;
-      ra = core .ra;
-      rb = core .rb;
-      ralu = outcome .value;
-      due = core .due;
-      stop = core .stop;
-      clock = core .clock;
-    }
+withResult outcome core = withHidden (withRalu (outcome .value) (core .hidden)) (withFlags (outcome .flags) core)
 
 abbrev pub third : Kind → Core → Core
-third kind core =
-    withResult (calculated kind (core .ir) (core .ra) (core .rb) (core .ralu) (reach (core .ir) (visibleOf core))) core
+third kind core = withResult (calculated kind (core .hidden) (reach (core .hidden .ir) (visibleOf core))) core
 
 -- 4. Rt, PC, SP, flags and stop state as they come out; the store is the caller's
-abbrev pub withVisible : Visible → Core → Core
-withVisible v core =
-    record {
-      regs = v .regs;
-      pc = v .pc;
-      sp = v .sp;
-      flags = v .flags;
-      ir = core .ir;
-      ra = core .ra;
-      rb = core .rb;
-      ralu = core .ralu;
-      due = core .due;
-      stop = v .stop;
-      clock = core .clock;
-    }
-
 abbrev pub withEffect : Effect → Core → Core
-withEffect effect core = withVisible (changed (core .ir) effect (visibleOf core)) core
+withEffect effect core = withVisible (changed (core .hidden .ir) effect (visibleOf core)) core
 
 -- what cycle 4 writes back
 abbrev pub fourthEffect : Kind → List ℕ → Core → Effect
-fourthEffect kind M core = writtenBack kind (core .rb) (core .ralu) M (reach (core .ir) (visibleOf core))
+fourthEffect kind M core = writtenBack kind (core .hidden) M (reach (core .hidden .ir) (visibleOf core))
 
 -- 'The last cycle of an instruction .. makes cycle 1 due'
 abbrev pub dueAfter : Bool → ℕ → ℕ
@@ -130,23 +59,14 @@ dueAfter false due = due + 1
 
 -- 'Each cycle adds 1 to the clock'
 abbrev pub ticked : Bool → Core → Core
-ticked finished core =
-    record {
-      regs = core .regs;
-      pc = core .pc;
-      sp = core .sp;
-      flags = core .flags;
-      ir = core .ir;
-      ra = core .ra;
-      rb = core .rb;
-      ralu = core .ralu;
-      due = dueAfter finished (core .due);
-      stop = core .stop;
-      clock = record { 0 = core .clock .0 + 1 };
-    }
+ticked finished core = withClock (core .clock .0 + 1) (withDue (dueAfter finished (core .due)) core)
 
 abbrev pub turn : Bool → Core → Store → Turn
 turn finished core store = record { core = ticked finished core; finished = finished; store = store }
+
+-- no cycle is done
+abbrev pub idle : Core → Turn
+idle core = record { core = core; finished = false; store = Nothing }
 
 -- the cycle due is the last of the instruction in IR if that costs, under the core's flags, no more cycles than the number due
 abbrev pub isLast : Kind → Core → Bool
@@ -159,8 +79,12 @@ laterCycle kind M core =
     cond (eqb (core .due) 2) (turn (isLast kind core) (second (stopOf kind) kind core) Nothing)
     (cond (eqb (core .due) 3) (turn (isLast kind core) (third kind core) Nothing)
     (cond (eqb (core .due) 4) (turn (isLast kind core) (withEffect (fourthEffect kind M core) core) (fourthEffect kind M core .store))
-    (record { core = core; finished = false; store = Nothing })))
+    (idle core)))
 
--- one cycle of any core
+-- one cycle, by the cycle due
 unfoldable pub cycled : List ℕ → Core → Turn
-cycled M core = cond (eqb (core .due) 1) (turn false (fetched M core) Nothing) (laterCycle (kindOf (core .ir)) M core)
+cycled M core = cond (eqb (core .due) 1) (turn false (fetched M core) Nothing) (laterCycle (kindOf (core .hidden .ir)) M core)
+
+-- and of any core: one whose clock is full ('of 32 bits') does none, as one whose cycle due is none of 1 to 4
+unfoldable pub oneCycle : List ℕ → Core → Turn
+oneCycle M core = cond (clockFull (core .clock .0) 1) (idle core) (cycled M core)

@@ -1,5 +1,6 @@
 -- The core, its engines and the calls, in the order of document 01, and the theorems about them.
 pub mod State
+pub mod Spent
 pub mod Datapath
 pub mod Instruction
 pub mod Numbers

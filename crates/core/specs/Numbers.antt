@@ -16,6 +16,10 @@ isGoing Going = true
 isGoing Halted = false
 isGoing Undefined = false
 
+-- the most cycles that an instruction takes
+abbrev pub longest : ℕ
+longest = 4
+
 -- '9: clock plus b, or plus 4 for a step, exceeds 4,294,967,295'
 abbrev pub clockFull : ℕ → ℕ → Bool
 clockFull clock b = ltb 4294967295 (clock + b)
@@ -35,7 +39,7 @@ runNumber L stop dueRight clock b =
     firstNumber ((1, wrongLength L) ∷ (8, not (isGoing stop)) ∷ (7, not dueRight) ∷ (9, clockFull clock b) ∷ [])
 
 unfoldable pub stepNumber : ℕ → Stop → Bool → ℕ → ℕ
-stepNumber L stop dueRight clock = runNumber L stop dueRight clock 4
+stepNumber L stop dueRight clock = runNumber L stop dueRight clock longest
 
 unfoldable pub viewNumber : Bool → ℕ
 viewNumber dueRight = firstNumber ((7, not dueRight) ∷ [])

@@ -7,17 +7,17 @@ use Prim.Native.Nat.{ℕ, _+_, _≤_, _<_}
 use lib.ListN.{set, replicate}
 use Rattle.words.specs.Memory.{wordAt}
 use Rattle.words.specs.Arithmetic.{sum}
-use Rattle.isa.specs.Fields.{fieldT, fieldA, fieldB}
-use Rattle.isa.specs.Control.{secondRegister}
 use Rattle.isa.specs.Cost.{costOf}
 use Rattle.table.specs.Table.{kindOf}
 use Rattle.alu.specs.declared.Outcome.{Outcome}
+use Rattle.effects.specs.Hidden.{withRalu}
 use Rattle.effects.specs.Cycles.{calculated}
 use Rattle.effects.specs.declared.Stop.the-variants.{Going, Undefined}
 use Rattle.effects.specs.declared.Store.the-variants.{Nothing}
-use Rattle.core.specs.State.{visibleOf, register, reach, freshVisible, between}
+use Rattle.core.specs.State.{freshCore, withRegs, withPc, withDue, withClock, visibleOf, register, raOf, rbOf, reach}
+use Rattle.core.specs.Spent.{spentOf, dueInRange, dueOne}
 use Rattle.core.specs.Datapath.{cycled}
-use Rattle.core.specs.Instruction.{past, costAt, instructed}
+use Rattle.core.specs.Instruction.{past, takes, instructed}
 use Rattle.core.specs.Calls.{Progress, cyclesOn, starting}
 use Rattle.core.specs.AtOnce.{pastOne}
 use Rattle.core.specs.declared.Core.{Core}
@@ -25,7 +25,8 @@ use Rattle.core.specs.declared.Core.{Core}
 -- what cycle 3 gives of the instruction that starts at p, from IR, RA and RB as latched
 abbrev pub outcomeOf : Progress → Core → Outcome
 outcomeOf p core =
-    calculated (kindOf (core .ir)) (core .ir) (core .ra) (core .rb) (p .core .ralu) (reach (core .ir) (past (visibleOf (p .core))))
+    calculated (kindOf (core .hidden .ir)) (withRalu (p .core .hidden .ralu) (core .hidden))
+    (reach (core .hidden .ir) (past (visibleOf (p .core))))
 
 -- q is i cycles into the instruction that starts at p: nothing is stored, finished or stopped; registers and SP are as they were, and
 -- so are the flags until cycle 3 is done; IR takes the word and PC moves one past it in cycle 1, RA and RB are latched in cycle 2, and RALU
@@ -33,69 +34,44 @@ outcomeOf p core =
 pub record Midway (i : ℕ) (p q : Progress) : Type 0 where
   pub memory : q .memory ≡ p .memory
   pub going : q .core .stop ≡ Going
-  pub due : q .core .due ≡ i + 1
+  pub due : dueInRange (q .core) ≡ true
+  pub spent : spentOf (q .core) ≡ i
   pub clock : q .core .clock .0 ≡ p .core .clock .0 + i
   pub used : q .used ≡ p .used + i
   pub finished : q .finished ≡ p .finished
   pub regs : q .core .regs ≡ p .core .regs
   pub sp : q .core .sp ≡ p .core .sp
   pub flags : i ≤ 2 → q .core .flags ≡ p .core .flags
-  pub fetched : 1 ≤ i → (q .core .pc ≡ sum (p .core .pc) 1) × (q .core .ir ≡ wordAt (p .memory) (p .core .pc))
+  pub fetched : 1 ≤ i → (q .core .pc ≡ sum (p .core .pc) 1) × (q .core .hidden .ir ≡ wordAt (p .memory) (p .core .pc))
   pub latched :
       2 ≤ i
-      → (q .core .ra ≡ register (p .core .regs) (fieldA (q .core .ir)))
-      × (q .core .rb ≡ register (p .core .regs) (secondRegister (kindOf (q .core .ir)) (fieldT (q .core .ir)) (fieldB (q .core .ir))))
-  pub early : i ≤ 1 → (q .core .ra ≡ p .core .ra) × (q .core .rb ≡ p .core .rb)
-  pub idle : i ≤ 2 → q .core .ralu ≡ p .core .ralu
-  pub calculated : 3 ≤ i → (q .core .ralu ≡ outcomeOf p (q .core) .value) × (q .core .flags ≡ outcomeOf p (q .core) .flags)
+      → (q .core .hidden .ra ≡ raOf (q .core .hidden .ir) (p .core .regs))
+      × (q .core .hidden .rb ≡ rbOf (kindOf (q .core .hidden .ir)) (q .core .hidden .ir) (p .core .regs))
+  pub early : i ≤ 1 → (q .core .hidden .ra ≡ p .core .hidden .ra) × (q .core .hidden .rb ≡ p .core .hidden .rb)
+  pub idle : i ≤ 2 → q .core .hidden .ralu ≡ p .core .hidden .ralu
+  pub calculated : 3 ≤ i → (q .core .hidden .ralu ≡ outcomeOf p (q .core) .value) × (q .core .flags ≡ outcomeOf p (q .core) .flags)
 
 -- from every going core with cycle 1 due, as many cycles as the instruction at PC costs give exactly the core that it leaves (what the table
 -- says, and the hidden registers), with its store made and one instruction more finished; fewer leave it midway (proved as
 -- `one-instruction`)
 abbrev pub OneInstruction : Type 0
 OneInstruction =
-    (p : Progress) → p .core .stop ≡ Going → p .core .due ≡ 1
-    → ((i : ℕ) → i < costAt (p .memory) (visibleOf (p .core)) → Midway i p (cyclesOn i p))
-    × (cyclesOn (costAt (p .memory) (visibleOf (p .core))) p ≡ pastOne p)
+    (p : Progress) → p .core .stop ≡ Going → dueOne (p .core) ≡ true
+    → ((i : ℕ) → i < takes (p .memory) (visibleOf (p .core)) → Midway i p (cyclesOn i p))
+    × (cyclesOn (takes (p .memory) (visibleOf (p .core))) p ≡ pastOne p)
 
 -- 'A core that no call made may have, in cycle 3 or 4, an IR word whose listed cost under its flags is below the cycle due. That cycle
 -- finishes the instruction and changes nothing else but the clock': cycle 1 is due, as after every last cycle (proved as
 -- `foreign-core`)
 abbrev pub ForeignCore : Type 0
 ForeignCore =
-    (memory : List ℕ) (core : Core) → 3 ≤ core .due → core .due ≤ 4 → costOf (kindOf (core .ir)) (core .flags) < core .due
+    (memory : List ℕ) (core : Core) → 3 ≤ core .due → core .due ≤ 4 → costOf (kindOf (core .hidden .ir)) (core .flags) < core .due
     → cycled memory core
-    ≡ record {
-      core =
-          record {
-            regs = core .regs;
-            pc = core .pc;
-            sp = core .sp;
-            flags = core .flags;
-            ir = core .ir;
-            ra = core .ra;
-            rb = core .rb;
-            ralu = core .ralu;
-            due = 1;
-            stop = core .stop;
-            clock = record { 0 = core .clock .0 + 1 };
-          };
-      finished = true;
-      store = Nothing;
-    }
+    ≡ record { core = withClock (core .clock .0 + 1) (withDue 1 core); finished = true; store = Nothing }
 
 -- The bench: a core with p in R1, q in R2, PC at the word and zero elsewhere; the word is the last of a memory of zeros
 abbrev pub benchCore : ℕ → ℕ → ℕ → Core
-benchCore p q pc =
-    between
-    (record {
-      regs = set (set (replicate 16 0) 1 p) 2 q;
-      pc = pc;
-      sp = 0;
-      flags = freshVisible .flags;
-      stop = freshVisible .stop;
-    })
-    0
+benchCore p q pc = withPc pc (withRegs (set (set (replicate 16 0) 1 p) 2 q) freshCore)
 
 abbrev pub benchMemory : ℕ → ℕ → List ℕ
 benchMemory word pc = set (replicate (pc + 1) 0) pc word

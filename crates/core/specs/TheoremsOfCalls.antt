@@ -1,17 +1,21 @@
 -- What the calls come to, for every core and memory: when a call is refused, and that it then changes nothing; what it does where it is
--- taken. Six statements, proved in proofs/Refusals.antt, proofs/Taken.antt and
+-- taken. Seven statements, proved in proofs/Refusals.antt, proofs/Taken.antt and
 -- proofs/Again.antt.
 use mathlib.Core.Path.{_≡_}
 use mathlib.Core.Logic.{_↔_, _⊎_}
+use mathlib.Core.Bool.{false}
 use mathlib.Core.List.{List, [], _∷_}
 use Prim.Native.Nat.{ℕ, _+_, _≤_, _<_}
 use lib.ListN.{length}
 use Rattle.listing.specs.Answers as listing
 use Rattle.listing.specs.Listing.{listingAnswer, listingMemory}
 use Rattle.effects.specs.declared.Stop.the-variants.{Going, Halted, Undefined}
-use Rattle.core.specs.State.{visibleOf, between, freshCore}
-use Rattle.core.specs.Instruction.{costAt}
-use Rattle.core.specs.Calls.{Answer, done, stored, ran, viewed, refused, refusedAt, Reply, reset, load, view, run, step}
+use Rattle.effects.specs.declared.Store.the-variants.{Nothing}
+use Rattle.effects.specs.Hidden.{noHidden}
+use Rattle.core.specs.State.{freshCore, withHidden, visibleOf}
+use Rattle.core.specs.Instruction.{takes}
+use Rattle.core.specs.Calls.{Answer, done, stored, ran, viewed, refused, refusedAt, Reply, reset, load, view, advancedBy, starting, ranReply, run, step}
+use Rattle.core.specs.Datapath.{oneCycle}
 use Rattle.core.specs.declared.Core.{Core}
 use Rattle.core.specs.declared.End.{End}
 use Rattle.core.specs.declared.End.the-variants.{H, U, B, M}
@@ -28,8 +32,11 @@ WrongLength memory = (length memory ≡ 0) ⊎ (65536 < length memory)
 abbrev pub IsStopped : Core → Type 0
 IsStopped core = core .stop ≡ Going → ⊥
 
+abbrev pub OneDue : Core → Type 0
+OneDue core = core .due ≡ 1
+
 abbrev pub NotOneDue : Core → Type 0
-NotOneDue core = core .due ≡ 1 → ⊥
+NotOneDue core = OneDue core → ⊥
 
 -- 'Order: load 1, 7, lines; run and step 1, 8, 7, 9; view only 7.'
 abbrev pub loadNumbers : Core → List ℕ → List (ℕ × Type 0)
@@ -80,8 +87,8 @@ abbrev pub Letter : End → Core → Type 0
 Letter end core =
     ((end ≡ H) ↔ (core .stop ≡ Halted))
     × ((end ≡ U) ↔ (core .stop ≡ Undefined))
-    × ((end ≡ B) ↔ ((core .stop ≡ Going) × (core .due ≡ 1)))
-    × ((end ≡ M) ↔ ((core .stop ≡ Going) × (core .due ≡ 1 → ⊥)))
+    × ((end ≡ B) ↔ ((core .stop ≡ Going) × OneDue core))
+    × ((end ≡ M) ↔ ((core .stop ≡ Going) × NotOneDue core))
 
 -- none of these numbers applies: the call is taken (a load then comes to its lines, which may still refuse it)
 abbrev pub Taken : List (ℕ × Type 0) → Type 0
@@ -124,19 +131,29 @@ RunAgain =
     × (whole .core ≡ second .core)
     × (whole .memory ≡ second .memory))
 
+-- one cycle of any core is what a run of 1 does, where that is taken; a core whose clock is full, or whose cycle due is none of 1 to 4, is
+-- handed back as it is, with nothing finished or stored (proved as `cycle-exactly`)
+abbrev pub CycleExactly : Type 0
+CycleExactly =
+    (core : Core) (memory : List ℕ)
+    → (Taken (runNumbers 1 core memory)
+    → run 1 core memory ≡ ranReply (advancedBy (oneCycle memory core) (starting core memory)))
+    × ((4294967295 ≤ core .clock .0) ⊎ ((core .due < 1) ⊎ (4 < core .due))
+    → oneCycle memory core ≡ record { core = core; finished = false; store = Nothing })
+
 -- a step that is taken answers its instruction's cost, 1 instruction finished and the letter of the core that it hands back; it is as a run
 -- of just that cost, but that the 'hidden registers become zero' (proved as `step-taken`)
 abbrev pub StepTaken : Type 0
 StepTaken =
     (core : Core) (memory : List ℕ) → Taken (stepNumbers core memory)
-    → let asRun : Reply = run (costAt memory (visibleOf core)) core memory in
+    → let asRun : Reply = run (takes memory (visibleOf core)) core memory in
     (end : End)
-    × (step core memory .answer ≡ ran (costAt memory (visibleOf core)) 1 end)
+    × (step core memory .answer ≡ ran (takes memory (visibleOf core)) 1 end)
     × Letter end (step core memory .core)
     × (asRun .answer ≡ step core memory .answer)
     × (asRun .memory ≡ step core memory .memory)
-    × (asRun .core .due ≡ 1)
-    × (step core memory .core ≡ between (visibleOf (asRun .core)) (asRun .core .clock .0))
+    × OneDue (asRun .core)
+    × (step core memory .core ≡ withHidden noHidden (asRun .core))
 
 -- a load that comes to its lines answers what `listingAnswer` says, a refusal too, leaves the memory that the listing makes, and the core; a view
 -- that is taken shows the core and changes nothing; reset is never refused, makes the core fresh and 'leaves memory as it was' (proved

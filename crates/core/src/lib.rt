@@ -2,23 +2,26 @@
 // instructions where the budget has room for them; step is one instruction. No call asks anything of its caller: what does not fit is refused
 // and changes nothing. In a contract `self` is the core as it was handed in, whatever becomes of it.
 ghost use mathlib.Core.Path.{_≡_};
-ghost use mathlib.Core.Bool.{cond};
+ghost use mathlib.Core.Bool.{true, cond};
 ghost use Prim.Native.Nat.{_+_, _-_, _≤_, _<_};
 ghost use lib.ListN.{set};
-ghost use Rattle.effects.specs.Cycles.{stopOf};
-ghost use Rattle.core.specs.State.{visibleOf, register, reach, freshCore};
-ghost use Rattle.core.specs.Datapath.{fetched, latched, stopped, second, withResult, third, withEffect, dueAfter, ticked, turn, isLast, laterCycle, cycled};
-ghost use Rattle.core.specs.Instruction.{memoryAfter, unlessStopping, coreAfter, withoutHidden};
-ghost use Rattle.core.specs.AtOnce.{coreOf, restOf, beforeOf, executedOf, stateAfter, goesOn, instructionsOn, ahead, reached};
-ghost use Rattle.listing.specs.Answers.{storeAnswer};
 ghost use Rattle.words.specs.Arithmetic.{bit};
+ghost use Rattle.listing.specs.Answers.{storeAnswer};
 ghost use Rattle.effects.specs.Effect.{applied};
-ghost use Rattle.core.specs.Numbers.{wrongLength, isGoing, clockFull, viewNumber, loadNumber, runNumber};
-ghost use Rattle.core.specs.Calls.{ran, refused, loadAnswer, goingEnd, endOf, dueOne, dueInRange, advanced, starting, reset, load, run, step, view};
+ghost use Rattle.effects.specs.Hidden.{noHidden};
+ghost use Rattle.effects.specs.Cycles.{stopOf};
+ghost use Rattle.core.specs.State.{freshCore, withHidden, stopped, visibleOf, register, reach};
+ghost use Rattle.core.specs.Spent.{dueInRange, dueOne};
+ghost use Rattle.core.specs.Datapath.{fetched, latched, second, withResult, third, withEffect, dueAfter, ticked, turn, idle, isLast, laterCycle, oneCycle};
+ghost use Rattle.core.specs.Instruction.{memoryAfter};
+ghost use Rattle.core.specs.AtOnce.{restOf, seen, joined, beforeOf, executedOf, stateAfter, stateOn, bankOn, goesOn, instructionsOn, ahead, reached};
+ghost use Rattle.core.specs.Numbers.{wrongLength, isGoing, longest, clockFull, viewNumber, loadNumber, runNumber};
+ghost use Rattle.core.specs.Calls.{ran, refused, loadAnswer, goingEnd, endOf, advanced, starting, reset, load, run, step, view};
 ghost use Rattle.core.specs.Answers.{refusalNumber, verdictNumber, loadAnswerOf, runAnswerOf, shown, resetGave, loadGave, runGave, viewGave};
 use alu::Outcome;
 use effects::Effect;
 use effects::Executed;
+use effects::Hidden;
 use effects::Stop;
 use effects::Store;
 use isa::Cycles;
@@ -27,20 +30,20 @@ use isa::Kind;
 use listing::Fault;
 use listing::StoreAnswer;
 
+// The most cycles that an instruction takes.
+const LONGEST: u32 = 4;
+
 // A number of instructions, which no addition joins with a number of cycles.
 pub struct Instructions(pub u32);
 
-// The core. `due` is the cycle due next, 1 to 4 on every core that calls make of a fresh one; `ir`, `ra`, `rb` and `ralu` are the hidden
-// registers.
+// The core. `due` is the cycle due next, 1 to 4 on every core that calls make of a fresh one. A core is written out in `fresh` and `with_stop`
+// alone.
 pub struct Core {
     pub regs: [u16; 16],
     pub pc: u16,
     pub sp: u16,
     pub flags: Flags,
-    pub ir: u16,
-    pub ra: u16,
-    pub rb: u16,
-    pub ralu: u16,
+    pub hidden: Hidden,
     pub due: u8,
     pub stop: Stop,
     pub clock: Cycles,
@@ -53,15 +56,13 @@ pub struct Turn {
     pub store: Store,
 }
 
-// All of a core with cycle 1 due but its bank of registers. Instructions are executed on the two apart, so that the bank is not copied.
+// What whole instructions change of a core with cycle 1 due, but for its bank of registers. They are executed on the two apart, so that the
+// bank is not copied.
 struct State {
     pc: u16,
     sp: u16,
     flags: Flags,
-    ir: u16,
-    ra: u16,
-    rb: u16,
-    ralu: u16,
+    hidden: Hidden,
     stop: Stop,
     clock: Cycles,
 }
@@ -162,13 +163,21 @@ pub fn fresh() -> Core
             c: false,
             v: false,
         },
+        hidden: no_hidden(),
+        due: 1,
+        stop: Stop::Going,
+        clock: Cycles(0),
+    }
+}
+
+fn no_hidden() -> Hidden
+    ensures { λ r. ⌜ r ≡ noHidden ⌝ }
+{
+    Hidden {
         ir: 0,
         ra: 0,
         rb: 0,
         ralu: 0,
-        due: 1,
-        stop: Stop::Going,
-        clock: Cycles(0),
     }
 }
 
@@ -181,7 +190,10 @@ fn register_of(regs: &[u16], i: u8) -> u16
 fn set_register(regs: &mut [u16], i: u8, value: u16)
     ensures { λ _. ⌜ now (regs .exit) ≡ set (now (regs .entry)) i value ⌝ }
 {
-    words::write(regs, i as u16, value)
+    let k = i as usize;
+    if k < regs.len() {
+        regs[k] = value;
+    }
 }
 
 fn due_after(finished: bool, due: u8) -> u8
@@ -301,49 +313,16 @@ fn apply(store: Store, memory: &mut [u16])
     }
 }
 
-// Is the core going, and is there room for an instruction, whatever it costs? `end` is the clock when the budget is spent.
+// Is the core going, and is there room for an instruction, whatever it takes? `end` is the clock when the budget is spent.
 fn goes_on(state: State, end: u32) -> bool
     requires { ⌜ state .clock .0 ≤ end ⌝ }
     ensures { λ r. ⌜ r ≡ goesOn (state .stop) (end - state .clock .0) ⌝ }
 {
     let stop = state.stop;
-    if end - state.clock.0 < 4 {
+    if end - state.clock.0 < LONGEST {
         return false;
     }
     is_going(stop)
-}
-
-// A core of its two parts.
-fn joined(state: State, regs: [u16; 16]) -> Core
-    ensures { λ r. ⌜ r ≡ coreOf state regs ⌝ }
-{
-    let flags = state.flags;
-    let stop = state.stop;
-    let clock = state.clock;
-    Core {
-        regs: regs,
-        pc: state.pc,
-        sp: state.sp,
-        flags: flags,
-        ir: state.ir,
-        ra: state.ra,
-        rb: state.rb,
-        ralu: state.ralu,
-        due: 1,
-        stop: stop,
-        clock: clock,
-    }
-}
-
-// What RA or RB is after cycle 2: the new value, or the old one where the instruction stops the core.
-fn latched_value(stop: Stop, new: u16, old: u16) -> u16
-    ensures { λ r. ⌜ r ≡ unlessStopping stop new old ⌝ }
-{
-    match stop {
-        Stop::Going => new,
-        Stop::Halted => old,
-        Stop::Undefined => old,
-    }
 }
 
 impl State {
@@ -370,45 +349,44 @@ impl State {
         let ra = register_of(regs, isa::field_a(word));
         let rb = register_of(regs, isa::field_b(word));
         let before = self.before(register_of(regs, isa::field_t(word)));
-        effects::execute(kind, word, ra, rb, self.ralu, memory, before)
+        let hidden = self.hidden;
+        effects::execute(kind, word, ra, rb, hidden, memory, before)
     }
 
-    // The state after that instruction, with the hidden registers as its cycles leave them; `regs` are the registers before it.
-    fn after(self, kind: Kind, word: u16, regs: &[u16], done: Executed) -> State
-        requires { ⌜ self .clock .0 + 4 ≤ 4294967295 ⌝ }
-        ensures { λ r. ⌜ r ≡ stateAfter kind word (now (regs .entry)) done self ⌝ }
+    // The state after that instruction and its cycles, with the hidden registers as these leave them; `regs` are the registers before it.
+    fn after(self, kind: Kind, word: u16, regs: &[u16], done: Executed, cycles: Cycles) -> State
+        requires { ⌜ self .clock .0 + cycles .0 ≤ 4294967295 ⌝ }
+        ensures { λ r. ⌜ r ≡ stateAfter kind word (now (regs .entry)) done (cycles .0) self ⌝ }
     {
-        let flags = self.flags;
         let stop = effects::stop_of(kind);
-        let cost = isa::cost(kind, flags);
         let ra = register_of(regs, isa::field_a(word));
         let second = isa::second_register(kind, isa::field_t(word), isa::field_b(word));
         let rb = register_of(regs, second);
         let changed = done.effect;
         let flags_after = changed.flags;
         let stop_after = changed.stop;
+        let hidden = self.hidden;
         State {
             pc: changed.pc,
             sp: changed.sp,
             flags: flags_after,
-            ir: word,
-            ra: latched_value(stop, ra, self.ra),
-            rb: latched_value(stop, rb, self.rb),
-            ralu: done.ralu,
+            hidden: hidden.after(stop, word, ra, rb, done.ralu),
             stop: stop_after,
-            clock: Cycles(self.clock.0 + cost.0),
+            clock: Cycles(self.clock.0 + cycles.0),
         }
     }
 
     // The instruction engine: the instruction at PC, with the bank and the memory changed where they lie.
     fn instruct(self, regs: &mut [u16], memory: &mut [u16]) -> State
-        requires { ⌜ self .clock .0 + 4 ≤ 4294967295 ⌝ }
-        ensures { λ r. ⌜ (coreOf r (now (regs .exit)) ≡ coreAfter (now (memory .entry)) (coreOf self (now (regs .entry)))) × (now (memory .exit) ≡ memoryAfter (now (memory .entry)) (visibleOf (coreOf self (now (regs .entry))))) ⌝ }
+        requires { ⌜ self .clock .0 + longest ≤ 4294967295 ⌝ }
+        ensures { λ r. ⌜ (r ≡ stateOn (now (memory .entry)) (now (regs .entry)) self) × (now (regs .exit) ≡ bankOn (now (memory .entry)) (now (regs .entry)) self) × (now (memory .exit) ≡ memoryAfter (now (memory .entry)) (seen self (now (regs .entry)))) ⌝ }
     {
         let word = words::read(memory, self.pc);
         let kind = table::kind_of(word);
         let done = self.execute(kind, word, regs, memory);
-        let next = self.after(kind, word, regs, done);
+        let flags = self.flags;
+        let cycles = isa::cost(kind, flags);
+        let next = self.after(kind, word, regs, done, cycles);
         let changed = done.effect;
         let store = changed.store;
         set_register(regs, isa::field_t(word), changed.rt);
@@ -418,11 +396,32 @@ impl State {
 }
 
 impl Core {
+    // The one setter that writes the core anew, since an enum is not assigned to a field.
+    pub fn with_stop(self, next: Stop) -> Core
+        ensures { λ r. ⌜ r ≡ stopped next self ⌝ }
+    {
+        let regs = self.regs;
+        let flags = self.flags;
+        let hidden_registers = self.hidden;
+        let clock = self.clock;
+        Core {
+            regs: regs,
+            pc: self.pc,
+            sp: self.sp,
+            flags: flags,
+            hidden: hidden_registers,
+            due: self.due,
+            stop: next,
+            clock: clock,
+        }
+    }
+
     // Cycle 1: IR takes M(PC); PC+1.
     fn fetch(mut self, memory: &[u16]) -> Core
         ensures { λ r. ⌜ r ≡ fetched (now (memory .entry)) self ⌝ }
     {
-        self.ir = words::read(memory, self.pc);
+        let word = words::read(memory, self.pc);
+        self.hidden.ir = word;
         self.pc = words::add(self.pc, 1);
         self
     }
@@ -432,34 +431,15 @@ impl Core {
         ensures { λ r. ⌜ r ≡ latched kind self ⌝ }
     {
         let regs = self.regs;
-        let word = self.ir;
+        let word = self.hidden.ir;
         let t = isa::field_t(word);
         let a = isa::field_a(word);
         let b = isa::field_b(word);
-        self.ra = register_of(&regs, a);
-        self.rb = register_of(&regs, isa::second_register(kind, t, b));
+        let ra = register_of(&regs, a);
+        let rb = register_of(&regs, isa::second_register(kind, t, b));
+        self.hidden.ra = ra;
+        self.hidden.rb = rb;
         self
-    }
-
-    fn with_stop(self, stop: Stop) -> Core
-        ensures { λ r. ⌜ r ≡ stopped stop self ⌝ }
-    {
-        let regs = self.regs;
-        let flags = self.flags;
-        let clock = self.clock;
-        Core {
-            regs: regs,
-            pc: self.pc,
-            sp: self.sp,
-            flags: flags,
-            ir: self.ir,
-            ra: self.ra,
-            rb: self.rb,
-            ralu: self.ralu,
-            due: self.due,
-            stop: stop,
-            clock: clock,
-        }
     }
 
     fn with_result(mut self, outcome: Outcome) -> Core
@@ -467,7 +447,7 @@ impl Core {
     {
         let flags = outcome.flags;
         self.flags = flags;
-        self.ralu = outcome.value;
+        self.hidden.ralu = outcome.value;
         self
     }
 
@@ -485,13 +465,13 @@ impl Core {
 
     // What the instruction in IR can change, as it is: Rt, PC, SP, flags and stop state, and nothing to store.
     fn reach(self) -> Effect
-        ensures { λ r. ⌜ r ≡ reach (self .ir) (visibleOf self) ⌝ }
+        ensures { λ r. ⌜ r ≡ reach (self .hidden .ir) (visibleOf self) ⌝ }
     {
         let regs = self.regs;
         let flags = self.flags;
         let stop = self.stop;
         Effect {
-            rt: register_of(&regs, isa::field_t(self.ir)),
+            rt: register_of(&regs, isa::field_t(self.hidden.ir)),
             pc: self.pc,
             sp: self.sp,
             flags: flags,
@@ -504,32 +484,24 @@ impl Core {
     fn calculate(self, kind: Kind) -> Core
         ensures { λ r. ⌜ r ≡ third kind self ⌝ }
     {
-        let outcome = effects::calculate(kind, self.ir, self.ra, self.rb, self.ralu, self.reach());
+        let hidden = self.hidden;
+        let outcome = effects::calculate(kind, hidden, self.reach());
         self.with_result(outcome)
     }
 
     // An effect put into the core, all but its store.
-    fn with_effect(self, effect: Effect) -> Core
+    fn with_effect(mut self, effect: Effect) -> Core
         ensures { λ r. ⌜ r ≡ withEffect effect self ⌝ }
     {
         let mut regs = self.regs;
-        set_register(&mut regs, isa::field_t(self.ir), effect.rt);
+        set_register(&mut regs, isa::field_t(self.hidden.ir), effect.rt);
         let flags = effect.flags;
         let stop = effect.stop;
-        let clock = self.clock;
-        Core {
-            regs: regs,
-            pc: effect.pc,
-            sp: effect.sp,
-            flags: flags,
-            ir: self.ir,
-            ra: self.ra,
-            rb: self.rb,
-            ralu: self.ralu,
-            due: self.due,
-            stop: stop,
-            clock: clock,
-        }
+        self.regs = regs;
+        self.pc = effect.pc;
+        self.sp = effect.sp;
+        self.flags = flags;
+        self.with_stop(stop)
     }
 
     // Is the cycle due the last of the instruction in IR?
@@ -577,10 +549,18 @@ impl Core {
             return self.calculate(kind).turn(last, Store::Nothing);
         }
         if due == 4 {
-            let effect = effects::write_back(kind, self.rb, self.ralu, memory, self.reach());
+            let hidden = self.hidden;
+            let effect = effects::write_back(kind, hidden, memory, self.reach());
             let store = effect.store;
             return self.with_effect(effect).turn(last, store);
         }
+        self.idle()
+    }
+
+    // No cycle.
+    fn idle(self) -> Turn
+        ensures { λ r. ⌜ r ≡ idle self ⌝ }
+    {
         Turn {
             core: self,
             finished: false,
@@ -588,15 +568,18 @@ impl Core {
         }
     }
 
-    // The datapath engine: one cycle. The store is the caller's to make.
-    fn cycle(self, memory: &[u16]) -> Turn
-        requires { ⌜ self .clock .0 < 4294967295 ⌝ }
-        ensures { λ r. ⌜ r ≡ cycled (now (memory .entry)) self ⌝ }
+    // The datapath engine: one cycle, for every core. One whose clock is full, or whose cycle due is none of 1 to 4, is handed back as it is. The
+    // store is the caller's to make; whether the core is going is the caller's to ask.
+    pub fn cycle(self, memory: &[u16]) -> Turn
+        ensures { λ r. ⌜ r ≡ oneCycle (now (memory .entry)) self ⌝ }
     {
+        if 4294967295 <= self.clock.0 {
+            return self.idle();
+        }
         if self.due == 1 {
             return self.fetch(memory).turn(false, Store::Nothing);
         }
-        self.later_cycle(table::kind_of(self.ir), memory)
+        self.later_cycle(table::kind_of(self.hidden.ir), memory)
     }
 
     // One cycle, its store made.
@@ -620,40 +603,54 @@ impl Core {
         ensures { λ r. ⌜ r ≡ restOf self ⌝ }
     {
         let flags = self.flags;
+        let hidden = self.hidden;
         let stop = self.stop;
         let clock = self.clock;
         State {
             pc: self.pc,
             sp: self.sp,
             flags: flags,
-            ir: self.ir,
-            ra: self.ra,
-            rb: self.rb,
-            ralu: self.ralu,
+            hidden: hidden,
             stop: stop,
             clock: clock,
         }
     }
 
-    // Whole instructions of a core with cycle 1 due, as long as it is going and 4 cycles of the budget are left, the most that one takes:
-    // just one, of a budget of 4.
-    fn instructions(self, b: u32, memory: &mut [u16]) -> Advance
-        requires { ⌜ (self .due ≡ 1) × (self .clock .0 + b ≤ 4294967295) ⌝ }
-        ensures { λ r. ⌜ reached r (now (memory .exit)) ≡ instructionsOn b b (starting self (now (memory .entry))) ⌝ }
+    // The core with a state and a bank put into it, and all else as it is.
+    fn joined(mut self, state: State, regs: [u16; 16]) -> Core
+        ensures { λ r. ⌜ r ≡ joined self state regs ⌝ }
+    {
+        let flags = state.flags;
+        let hidden = state.hidden;
+        let stop = state.stop;
+        let clock = state.clock;
+        self.regs = regs;
+        self.pc = state.pc;
+        self.sp = state.sp;
+        self.flags = flags;
+        self.hidden = hidden;
+        self.clock = clock;
+        self.with_stop(stop)
+    }
+
+    // At most so many whole instructions of a core with cycle 1 due, each where it is going and what is left of the budget has room for one.
+    fn instructions(self, most: u32, b: u32, memory: &mut [u16]) -> Advance
+        requires { ⌜ (dueOne self ≡ true) × (self .clock .0 + b ≤ 4294967295) ⌝ }
+        ensures { λ r. ⌜ reached r (now (memory .exit)) ≡ instructionsOn most b (starting self (now (memory .entry))) ⌝ }
     {
         let mut regs = self.regs;
         let mut state = self.rest();
-        let mut count = Instructions(0);
+        let mut left = most;
         let start = state.clock.0;
-        while goes_on(state, start + b) {
+        while left != 0 && goes_on(state, start + b) {
             state = state.instruct(&mut regs, memory);
-            count.0 += 1;
+            left -= 1;
         }
         let cycles = Cycles(state.clock.0 - start);
         Advance {
-            core: joined(state, regs),
+            core: self.joined(state, regs),
             cycles: cycles,
-            instructions: count,
+            instructions: Instructions(most - left),
         }
     }
 
@@ -662,12 +659,11 @@ impl Core {
         requires { ⌜ (1 ≤ b) × (self .clock .0 + b ≤ 4294967295) ⌝ }
         ensures { λ r. ⌜ reached r (now (memory .exit)) ≡ ahead b (starting self (now (memory .entry))) ⌝ }
     {
-        let due = self.due;
-        if due == 1 {
-            if 4 <= b {
+        if self.one_due() {
+            if LONGEST <= b {
                 // A copy for this call: single cycles take longer where run's own core is lent to it.
                 let whole = self;
-                return whole.instructions(b, memory);
+                return whole.instructions(b, b, memory);
             }
         }
         self.one_cycle(memory)
@@ -675,12 +671,10 @@ impl Core {
 
     // The hidden registers zero.
     fn without_hidden(mut self) -> Core
-        ensures { λ r. ⌜ r ≡ withoutHidden self ⌝ }
+        ensures { λ r. ⌜ r ≡ withHidden noHidden self ⌝ }
     {
-        self.ir = 0;
-        self.ra = 0;
-        self.rb = 0;
-        self.ralu = 0;
+        let hidden = no_hidden();
+        self.hidden = hidden;
         self
     }
 
@@ -812,11 +806,11 @@ impl Core {
     {
         let stop = self.stop;
         let clock = self.clock;
-        let verdict = run_verdict(memory.len(), stop, self.one_due(), clock, 4);
+        let verdict = run_verdict(memory.len(), stop, self.one_due(), clock, LONGEST);
         if let Verdict::Refused(why) = verdict {
             return self.run_refused(why);
         }
-        let one = self.instructions(4, memory);
+        let one = self.instructions(1, LONGEST, memory);
         let used = one.cycles;
         let next = one.core;
         self = next.without_hidden();

@@ -12,32 +12,33 @@ use Rattle.isa.specs.Control.{taken, secondRegister}
 use Rattle.isa.specs.Cost.{jumpClass}
 use Rattle.isa.specs.declared.Kind.{Kind}
 use Rattle.isa.specs.declared.Kind.the-variants.{Undefined, Binary, Constant, Ld, St, Unary, Nop, Halt, Ldsp, Rts, Pop, Push, Jump, Call}
-use Rattle.effects.specs.Effect.{toRt, toPc, toSp}
-use Rattle.effects.specs.Table.{executed}
+use Rattle.effects.specs.Effect.{toRt, toPc, toSp, loaded}
+use Rattle.effects.specs.Hidden.{withRaRb}
+use Rattle.effects.specs.Table.{jumped, executed}
 use Rattle.effects.specs.declared.Effect.{Effect}
-use Rattle.effects.specs.Theorems.{AsCycles, CyclesAgree, Idle, PastTheLast, StackExactly}
+use Rattle.effects.specs.Theorems.{AsCycles, CyclesAgree, Idle, PastTheLast, AccessMade, StackExactly}
 
 pub cycles-agree : CyclesAgree
-cycles-agree Undefined w t a b RALU register M x e = (λ z. absurd (let n : _≡_ {A = ℕ} 0 1 = cc in omega arith), refl)
-cycles-agree (Binary op) w t a b RALU register M x e = (refl, refl)
-cycles-agree (Constant op) w t a b RALU register M x e = (refl, rw e)
-cycles-agree Ld w t a b RALU register M x e = (refl, refl)
-cycles-agree St w t a b RALU register M x e = (refl, refl)
-cycles-agree (Unary op) w t a b RALU register M x e = (refl, refl)
-cycles-agree Nop w t a b RALU register M x e = (refl, refl, refl)
-cycles-agree Halt w t a b RALU register M x e = (λ z. absurd (let n : _≡_ {A = ℕ} 0 1 = cc in omega arith), refl)
-cycles-agree Ldsp w t a b RALU register M x e = (refl, refl)
-cycles-agree Rts w t a b RALU register M x e = (refl, refl)
-cycles-agree Pop w t a b RALU register M x e = (refl, refl)
-cycles-agree Push w t a b RALU register M x e = (refl, rw e)
-cycles-agree (Jump condition target) w t a b RALU register M x e = by-taken (taken condition (x .flags)) refl
+cycles-agree Undefined t a b register M h x e = (λ z. absurd (let n : _≡_ {A = ℕ} 0 1 = cc in omega arith), refl)
+cycles-agree (Binary op) t a b register M h x e = (refl, refl)
+cycles-agree (Constant op) t a b register M h x e = (refl, rw e)
+cycles-agree Ld t a b register M h x e = (refl, refl)
+cycles-agree St t a b register M h x e = (refl, refl)
+cycles-agree (Unary op) t a b register M h x e = (refl, refl)
+cycles-agree Nop t a b register M h x e = (refl, refl, refl)
+cycles-agree Halt t a b register M h x e = (λ z. absurd (let n : _≡_ {A = ℕ} 0 1 = cc in omega arith), refl)
+cycles-agree Ldsp t a b register M h x e = (refl, refl)
+cycles-agree Rts t a b register M h x e = (refl, refl)
+cycles-agree Pop t a b register M h x e = (refl, refl)
+cycles-agree Push t a b register M h x e = (refl, rw e)
+cycles-agree (Jump condition target) t a b register M h x e = by-taken (taken condition (x .flags)) refl
   where
     by-taken : (goes : Bool) → taken condition (x .flags) ≡ goes
-        → AsCycles (jumpClass (taken condition (x .flags))) (Jump condition target) w (register a) (register b) RALU M x
-        (executed (Jump condition target) w (register a) (register b) M x)
-    by-taken true h = rw h (refl, cc)
-    by-taken false h = rw h (refl, refl, refl)
-cycles-agree (Call target) w t a b RALU register M x e = (refl, refl)
+        → AsCycles (jumpClass (taken condition (x .flags))) (Jump condition target) (withRaRb (register a) (register b) h) M x
+        (executed (Jump condition target) (h .ir) (register a) (register b) M x)
+    by-taken true g = rw g (refl, cc)
+    by-taken false g = rw g (refl, refl, refl)
+cycles-agree (Call target) t a b register M h x e = (refl, refl)
 
 -- what cycle 2 latches into RB, by the value or by the register
 pub second-of : (k : Kind) (t b : ℕ) (register : ℕ → ℕ) → secondRegister k (register t) (register b) ≡ register (secondRegister k t b)
@@ -57,25 +58,46 @@ second-of (Jump condition target) t b register = refl
 second-of (Call target) t b register = refl
 
 pub past-the-last : PastTheLast
-past-the-last Undefined w RA RB RALU M x = (refl, refl)
-past-the-last (Binary op) w RA RB RALU M x = tt
-past-the-last (Constant op) w RA RB RALU M x = tt
-past-the-last Ld w RA RB RALU M x = tt
-past-the-last St w RA RB RALU M x = tt
-past-the-last (Unary op) w RA RB RALU M x = tt
-past-the-last Nop w RA RB RALU M x = refl
-past-the-last Halt w RA RB RALU M x = (refl, refl)
-past-the-last Ldsp w RA RB RALU M x = tt
-past-the-last Rts w RA RB RALU M x = tt
-past-the-last Pop w RA RB RALU M x = tt
-past-the-last Push w RA RB RALU M x = tt
-past-the-last (Jump condition target) w RA RB RALU M x = by (taken condition (x .flags)) refl
+past-the-last Undefined h M x = (refl, refl)
+past-the-last (Binary op) h M x = tt
+past-the-last (Constant op) h M x = tt
+past-the-last Ld h M x = tt
+past-the-last St h M x = tt
+past-the-last (Unary op) h M x = tt
+past-the-last Nop h M x = refl
+past-the-last Halt h M x = (refl, refl)
+past-the-last Ldsp h M x = tt
+past-the-last Rts h M x = tt
+past-the-last Pop h M x = tt
+past-the-last Push h M x = tt
+past-the-last (Jump condition target) h M x = by (taken condition (x .flags)) refl
   where
     by : (goes : Bool) → taken condition (x .flags) ≡ goes
-        → Idle (jumpClass (taken condition (x .flags))) (Jump condition target) w RA RB RALU M x
-    by true h = rw h tt
-    by false h = rw h (cc)
-past-the-last (Call target) w RA RB RALU M x = tt
+        → Idle (jumpClass (taken condition (x .flags))) (Jump condition target) h M x
+    by true g = rw g tt
+    by false g = rw g (cc)
+past-the-last (Call target) h M x = tt
+
+-- a jump stores nothing
+jump-stores : (goes : Bool) (target : ℕ) (x : Effect) → jumped goes target x .store ≡ x .store
+jump-stores true target x = refl
+jump-stores false target x = refl
+
+pub access-made : AccessMade
+access-made Undefined h x e = λ M M′. (refl, e)
+access-made (Binary op) h x e = λ M M′. (refl, e)
+access-made (Constant op) h x e = λ M M′. (refl, e)
+access-made Ld h x e = λ M M′. ((ap (λ (y : Effect). y .rt), ap (λ (word : ℕ). loaded word x)), e)
+access-made St h x e = λ M M′. (refl, (x .rt, refl))
+access-made (Unary op) h x e = λ M M′. (refl, e)
+access-made Nop h x e = λ M M′. (refl, e)
+access-made Halt h x e = λ M M′. (refl, e)
+access-made Ldsp h x e = λ M M′. (refl, e)
+access-made Rts h x e = λ M M′. ((ap (λ (y : Effect). y .pc), ap (λ (word : ℕ). toPc word (toSp (h .ralu) x))), e)
+access-made Pop h x e = λ M M′. ((ap (λ (y : Effect). y .rt), ap (λ (word : ℕ). toRt word (toSp (h .ralu) x))), e)
+access-made Push h x e = λ M M′. (refl, (h .rb, refl))
+access-made (Jump condition target) h x e = λ M M′. (refl, jump-stores (taken condition (x .flags)) (h .ralu) x ∙ e)
+access-made (Call target) h x e = λ M M′. (refl, (x .pc, refl))
 
 -- one below, then one above
 back : (sp : ℕ) → sp < 65536 → sum (difference sp 1) 1 ≡ sp

@@ -1,5 +1,5 @@
 -- Document 01, 'Datapath cycles': what the cycles 2, 3 and 4 do, by the instruction in IR. (The fetch of cycle 1 and the latching of
--- cycle 2 are the core's.) Then an instruction at once, with what its cycles leave in RALU.
+-- cycle 2 are the core's.) Then an instruction at once, with what its cycles leave in the hidden registers.
 use Prim.Native.Nat.{ℕ}
 use mathlib.Core.List.{List}
 use Rattle.words.specs.Memory.{wordAt}
@@ -11,10 +11,12 @@ use Rattle.isa.specs.declared.Kind.the-variants.{Undefined, Binary, Constant, L
 use Rattle.alu.specs.Flags.{silent}
 use Rattle.alu.specs.Results.{binaryResult, constantResult, unaryResult}
 use Rattle.alu.specs.declared.Outcome.{Outcome}
-use Rattle.effects.specs.Effect.{toRt, toPc, toSp, storing, pushed}
+use Rattle.effects.specs.Effect.{toRt, toPc, toSp, storing, loaded, pushed}
+use Rattle.effects.specs.Hidden.{withIr, withRaRb, withRalu}
 use Rattle.effects.specs.Table.{jumped, executed}
 use Rattle.effects.specs.declared.Effect.{Effect}
 use Rattle.effects.specs.declared.Executed.{Executed}
+use Rattle.effects.specs.declared.Hidden.{Hidden}
 use Rattle.effects.specs.declared.Stop.{Stop}
 use Rattle.effects.specs.declared.Stop as stop
 use Rattle.effects.specs.declared.Stop.the-variants.{Going, Halted}
@@ -36,46 +38,56 @@ stopOf Push = Going
 stopOf (Jump condition target) = Going
 stopOf (Call target) = Going
 
--- cycle 3, 'RALU takes ..' and 'Flags change here': w is IR, and RALU and the flags come out. 'NOP changes nothing'; nor does a
--- HALT or undefined word here, which only a core that no call made can have in this cycle: RALU is as it was
-abbrev pub calculated : Kind → ℕ → ℕ → ℕ → ℕ → Effect → Outcome
-calculated Undefined w RA RB RALU x = silent RALU (x .flags)
-calculated (Binary op) w RA RB RALU x = binaryResult op RA RB (x .flags)
-calculated (Constant op) w RA RB RALU x = constantResult op RB (fieldK w) (x .flags)
-calculated Ld w RA RB RALU x = silent (sum RA RB) (x .flags)
-calculated St w RA RB RALU x = silent (sum RA RB) (x .flags)
-calculated (Unary op) w RA RB RALU x = unaryResult op RA (x .flags)
-calculated Nop w RA RB RALU x = silent RALU (x .flags)
-calculated Halt w RA RB RALU x = silent RALU (x .flags)
-calculated Ldsp w RA RB RALU x = silent RA (x .flags)
-calculated Rts w RA RB RALU x = silent (sum (x .sp) 1) (x .flags)
-calculated Pop w RA RB RALU x = silent (sum (x .sp) 1) (x .flags)
-calculated Push w RA RB RALU x = silent RB (x .flags)
-calculated (Jump condition target) w RA RB RALU x = silent (jumpTarget target w (x .pc) RA) (x .flags)
-calculated (Call target) w RA RB RALU x = silent (callTarget target w (x .pc) RA) (x .flags)
+-- cycle 3, 'RALU takes ..' and 'Flags change here': h has IR, RA, RB and RALU, and what RALU takes and the flags come out. 'NOP changes
+-- nothing'; nor does a HALT or undefined word here, which only a core that no call made can have in this cycle: RALU is as it was
+abbrev pub calculated : Kind → Hidden → Effect → Outcome
+calculated Undefined h x = silent (h .ralu) (x .flags)
+calculated (Binary op) h x = binaryResult op (h .ra) (h .rb) (x .flags)
+calculated (Constant op) h x = constantResult op (h .rb) (fieldK (h .ir)) (x .flags)
+calculated Ld h x = silent (sum (h .ra) (h .rb)) (x .flags)
+calculated St h x = silent (sum (h .ra) (h .rb)) (x .flags)
+calculated (Unary op) h x = unaryResult op (h .ra) (x .flags)
+calculated Nop h x = silent (h .ralu) (x .flags)
+calculated Halt h x = silent (h .ralu) (x .flags)
+calculated Ldsp h x = silent (h .ra) (x .flags)
+calculated Rts h x = silent (sum (x .sp) 1) (x .flags)
+calculated Pop h x = silent (sum (x .sp) 1) (x .flags)
+calculated Push h x = silent (h .rb) (x .flags)
+calculated (Jump condition target) h x = silent (jumpTarget target (h .ir) (x .pc) (h .ra)) (x .flags)
+calculated (Call target) h x = silent (callTarget target (h .ir) (x .pc) (h .ra)) (x .flags)
 
 -- cycle 4. NOP, HALT, undefined words and a jump that is untaken under the flags of that moment are in cycle 4 only on a core that no
 -- call made, and change nothing
-abbrev pub writtenBack : Kind → ℕ → ℕ → List ℕ → Effect → Effect
-writtenBack Undefined RB RALU M x = x
-writtenBack (Binary op) RB RALU M x = toRt RALU x
-writtenBack (Constant op) RB RALU M x = toRt RALU x
-writtenBack Ld RB RALU M x = toRt (wordAt M RALU) x
-writtenBack St RB RALU M x = storing RALU (x .rt) x
-writtenBack (Unary op) RB RALU M x = toRt RALU x
-writtenBack Nop RB RALU M x = x
-writtenBack Halt RB RALU M x = x
-writtenBack Ldsp RB RALU M x = toSp RALU x
-writtenBack Rts RB RALU M x = toPc (wordAt M RALU) (toSp RALU x)
-writtenBack Pop RB RALU M x = toRt (wordAt M RALU) (toSp RALU x)
-writtenBack Push RB RALU M x = pushed RB x
-writtenBack (Jump condition target) RB RALU M x = jumped (taken condition (x .flags)) RALU x
-writtenBack (Call target) RB RALU M x = toPc RALU (pushed (x .pc) x)
+abbrev pub writtenBack : Kind → Hidden → List ℕ → Effect → Effect
+writtenBack Undefined h M x = x
+writtenBack (Binary op) h M x = toRt (h .ralu) x
+writtenBack (Constant op) h M x = toRt (h .ralu) x
+writtenBack Ld h M x = loaded (wordAt M (h .ralu)) x
+writtenBack St h M x = storing (h .ralu) (x .rt) x
+writtenBack (Unary op) h M x = toRt (h .ralu) x
+writtenBack Nop h M x = x
+writtenBack Halt h M x = x
+writtenBack Ldsp h M x = toSp (h .ralu) x
+writtenBack Rts h M x = toPc (wordAt M (h .ralu)) (toSp (h .ralu) x)
+writtenBack Pop h M x = toRt (wordAt M (h .ralu)) (toSp (h .ralu) x)
+writtenBack Push h M x = pushed (h .rb) x
+writtenBack (Jump condition target) h M x = jumped (taken condition (x .flags)) (h .ralu) x
+writtenBack (Call target) h M x = toPc (h .ralu) (pushed (x .pc) x)
 
--- an instruction at once: what the table says of it, and the value that its cycles leave in RALU, from RA and RB as cycle 2 latches them
-abbrev pub withRalu : ℕ → Effect → Executed
-withRalu RALU x = record { effect = x; ralu = RALU }
+-- cycle 2, 'stop .. Otherwise RA takes ..; RB takes ..': what RA or RB is after it, by the stop state that it sets
+abbrev pub unlessStopping : Stop → ℕ → ℕ → ℕ
+unlessStopping Going new old = new
+unlessStopping Halted new old = old
+unlessStopping stop.the-variants.Undefined new old = old
 
-abbrev pub atOnce : Kind → ℕ → ℕ → ℕ → ℕ → List ℕ → Effect → Executed
-atOnce k w ra rb RALU M x =
-    withRalu (calculated k w ra (secondRegister k (x .rt) rb) RALU x .value) (executed k w ra rb M x)
+-- what the cycles of the instruction w leave in the hidden registers, RALU with the value v
+abbrev pub hiddenAfter : Stop → ℕ → ℕ → ℕ → ℕ → Hidden → Hidden
+hiddenAfter s w RA RB v h = withRalu v (withRaRb (unlessStopping s RA (h .ra)) (unlessStopping s RB (h .rb)) (withIr w h))
+
+-- an instruction at once: what the table says of it, and the value that cycle 3 gives RALU, from IR, RA and RB as latched
+abbrev pub leaving : ℕ → Effect → Executed
+leaving RALU x = record { effect = x; ralu = RALU }
+
+abbrev pub atOnce : Kind → ℕ → ℕ → ℕ → Hidden → List ℕ → Effect → Executed
+atOnce k w ra rb h M x =
+    leaving (calculated k (withRaRb ra (secondRegister k (x .rt) rb) (withIr w h)) x .value) (executed k w ra rb M x)

@@ -1,13 +1,18 @@
--- What an instruction can change (the struct `Effect`), one part at a time. Before an instruction the store is `Nothing`.
+-- What an instruction can change (the struct `Effect`), one part at a time: no other definition writes one out.
 use Prim.Native.Nat.{ℕ}
 use mathlib.Core.List.{List}
 use Rattle.words.specs.Memory as words
 use Rattle.words.specs.Arithmetic.{difference}
+use Rattle.isa.specs.declared.Flags.{Flags}
 use Rattle.alu.specs.declared.Outcome.{Outcome}
 use Rattle.effects.specs.declared.Effect.{Effect}
 use Rattle.effects.specs.declared.Stop.{Stop}
 use Rattle.effects.specs.declared.Store.{Store}
 use Rattle.effects.specs.declared.Store.the-variants.{Nothing, Word}
+
+-- as it is before an instruction: nothing to store
+abbrev pub untouched : ℕ → ℕ → ℕ → Flags → Stop → Effect
+untouched rt pc sp flags stop = record { rt = rt; pc = pc; sp = sp; flags = flags; stop = stop; store = Nothing }
 
 -- 'Rt takes ..', 'PC takes ..', 'SP takes ..'
 abbrev pub toRt : ℕ → Effect → Effect
@@ -19,7 +24,10 @@ toPc v x = record { rt = x .rt; pc = v; sp = x .sp; flags = x .flags; stop = x .
 abbrev pub toSp : ℕ → Effect → Effect
 toSp v x = record { rt = x .rt; pc = x .pc; sp = v; flags = x .flags; stop = x .stop; store = x .store }
 
--- the stop state is set
+-- flags and stop state are set
+abbrev pub toFlags : Flags → Effect → Effect
+toFlags f x = record { rt = x .rt; pc = x .pc; sp = x .sp; flags = f; stop = x .stop; store = x .store }
+
 abbrev pub stopping : Stop → Effect → Effect
 stopping s x = record { rt = x .rt; pc = x .pc; sp = x .sp; flags = x .flags; stop = s; store = x .store }
 
@@ -29,7 +37,11 @@ storing a v x = record { rt = x .rt; pc = x .pc; sp = x .sp; flags = x .flags; s
 
 -- a result of arithmetic: Rt takes the value, and the flags are those after it
 abbrev pub result : Outcome → Effect → Effect
-result o x = record { rt = o .value; pc = x .pc; sp = x .sp; flags = o .flags; stop = x .stop; store = x .store }
+result o x = toFlags (o .flags) (toRt (o .value) x)
+
+-- a word that LD reads: Rt takes it, and the flags are as they were
+abbrev pub loaded : ℕ → Effect → Effect
+loaded word x = toRt word x
 
 -- 'M(SP) takes ..', then 'SP-1'
 abbrev pub pushed : ℕ → Effect → Effect

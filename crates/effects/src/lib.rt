@@ -2,9 +2,9 @@
 // part only in stopping. There is no core here: the caller hands in the registers that the word names, and writes back what comes out.
 ghost use mathlib.Core.Path.{_≡_};
 ghost use Rattle.alu.specs.Flags.{silent as quiet};
-ghost use Rattle.effects.specs.Effect.{toRt, toPc, toSp, stopping, storing, result, pushed};
+ghost use Rattle.effects.specs.Effect.{toRt, toPc, toSp, stopping, storing, result, loaded, pushed};
 ghost use Rattle.effects.specs.Table.{jumped};
-ghost use Rattle.effects.specs.Cycles.{stopOf, calculated, writtenBack, withRalu, atOnce};
+ghost use Rattle.effects.specs.Cycles.{stopOf, calculated, writtenBack, unlessStopping, hiddenAfter, leaving, atOnce};
 use alu::Outcome;
 use isa::Condition;
 use isa::Flags;
@@ -23,6 +23,14 @@ pub enum Store {
     Word { address: u16, word: u16 },
 }
 
+// The hidden registers.
+pub struct Hidden {
+    pub ir: u16,
+    pub ra: u16,
+    pub rb: u16,
+    pub ralu: u16,
+}
+
 // What an instruction can change: the register that its field t names, PC, SP, flags, stop state, and one word of memory.
 pub struct Effect {
     pub rt: u16,
@@ -37,6 +45,32 @@ pub struct Effect {
 pub struct Executed {
     pub effect: Effect,
     pub ralu: u16,
+}
+
+impl Hidden {
+    // What the cycles of an instruction leave in them: IR has its word; RA and RB are latched unless cycle 2 stops the core; RALU has the value
+    // of cycle 3.
+    pub fn after(self, stop: Stop, word: u16, ra: u16, rb: u16, ralu: u16) -> Hidden
+        ensures { λ r. ⌜ r ≡ hiddenAfter stop word ra rb ralu self ⌝ }
+    {
+        Hidden {
+            ir: word,
+            ra: latched(stop, ra, self.ra),
+            rb: latched(stop, rb, self.rb),
+            ralu: ralu,
+        }
+    }
+}
+
+// RA or RB after cycle 2.
+fn latched(stop: Stop, new: u16, old: u16) -> u16
+    ensures { λ r. ⌜ r ≡ unlessStopping stop new old ⌝ }
+{
+    match stop {
+        Stop::Going => new,
+        Stop::Halted => old,
+        Stop::Undefined => old,
+    }
 }
 
 fn to_rt(mut effect: Effect, value: u16) -> Effect
@@ -93,6 +127,7 @@ fn with_store(effect: Effect, address: u16, word: u16) -> Effect
     }
 }
 
+// Written anew: with its two fields set in place a run takes twice as long.
 fn with_result(effect: Effect, outcome: Outcome) -> Effect
     ensures { λ r. ⌜ r ≡ result outcome effect ⌝ }
 {
@@ -107,6 +142,13 @@ fn with_result(effect: Effect, outcome: Outcome) -> Effect
         stop: stop,
         store: store,
     }
+}
+
+// A word that LD reads.
+fn load(effect: Effect, word: u16) -> Effect
+    ensures { λ r. ⌜ r ≡ loaded word effect ⌝ }
+{
+    to_rt(effect, word)
 }
 
 fn push(effect: Effect, word: u16) -> Effect
@@ -124,7 +166,7 @@ fn jump(effect: Effect, goes: bool, target: u16) -> Effect
 }
 
 fn with_ralu(effect: Effect, ralu: u16) -> Executed
-    ensures { λ r. ⌜ r ≡ withRalu ralu effect ⌝ }
+    ensures { λ r. ⌜ r ≡ leaving ralu effect ⌝ }
 {
     Executed {
         effect: effect,
@@ -134,23 +176,25 @@ fn with_ralu(effect: Effect, ralu: u16) -> Executed
 
 // o 0 to 8 and SL0 to NOT: RALU takes the value that Rt takes.
 fn arithmetic(effect: Effect, outcome: Outcome) -> Executed
-    ensures { λ r. ⌜ r ≡ withRalu (outcome .value) (result outcome effect) ⌝ }
+    ensures { λ r. ⌜ r ≡ leaving (outcome .value) (result outcome effect) ⌝ }
 {
     with_ralu(with_result(effect, outcome), outcome.value)
 }
 
-// A whole instruction, by the table: `ra` and `rb` are Ra and Rb, `ralu` is RALU, and PC of `before` is one past the instruction.
+// A whole instruction, by the table: `ra` and `rb` are Ra and Rb, `hidden` are the hidden registers before it, and PC of `before` is one past
+// it.
 pub fn execute(
     kind: Kind,
     word: u16,
     ra: u16,
     rb: u16,
-    ralu: u16,
+    hidden: Hidden,
     memory: &[u16],
     before: Effect,
 ) -> Executed
-    ensures { λ r. ⌜ r ≡ atOnce kind word ra rb ralu (now (memory .entry)) before ⌝ }
+    ensures { λ r. ⌜ r ≡ atOnce kind word ra rb hidden (now (memory .entry)) before ⌝ }
 {
+    let ralu = hidden.ralu;
     let flags = before.flags;
     let pc = before.pc;
     let rt = before.rt;
@@ -160,7 +204,7 @@ pub fn execute(
         Kind::Undefined => with_ralu(with_stop(before, Stop::Undefined), ralu),
         Kind::Binary(op) => arithmetic(before, alu::binary(op, ra, rb, flags)),
         Kind::Constant(op) => arithmetic(before, alu::constant(op, rt, isa::field_k(word), flags)),
-        Kind::Ld => with_ralu(to_rt(before, words::read(memory, sum)), sum),
+        Kind::Ld => with_ralu(load(before, words::read(memory, sum)), sum),
         Kind::St => with_ralu(with_store(before, sum, rt), sum),
         Kind::Unary(op) => arithmetic(before, alu::unary(op, ra, flags)),
         Kind::Nop => with_ralu(before, ralu),
@@ -217,10 +261,14 @@ fn silent(value: u16, flags: Flags) -> Outcome
     }
 }
 
-// Cycle 3: what RALU takes, and the flags after it. `ra`, `rb` and `ralu` are RA, RB and RALU.
-pub fn calculate(kind: Kind, word: u16, ra: u16, rb: u16, ralu: u16, before: Effect) -> Outcome
-    ensures { λ r. ⌜ r ≡ calculated kind word ra rb ralu before ⌝ }
+// Cycle 3: what RALU takes, and the flags after it.
+pub fn calculate(kind: Kind, hidden: Hidden, before: Effect) -> Outcome
+    ensures { λ r. ⌜ r ≡ calculated kind hidden before ⌝ }
 {
+    let word = hidden.ir;
+    let ra = hidden.ra;
+    let rb = hidden.rb;
+    let ralu = hidden.ralu;
     let flags = before.flags;
     let pc = before.pc;
     let above = words::add(before.sp, 1);
@@ -243,15 +291,16 @@ pub fn calculate(kind: Kind, word: u16, ra: u16, rb: u16, ralu: u16, before: Eff
 }
 
 // Cycle 4: what is written back.
-pub fn write_back(kind: Kind, rb: u16, ralu: u16, memory: &[u16], before: Effect) -> Effect
-    ensures { λ r. ⌜ r ≡ writtenBack kind rb ralu (now (memory .entry)) before ⌝ }
+pub fn write_back(kind: Kind, hidden: Hidden, memory: &[u16], before: Effect) -> Effect
+    ensures { λ r. ⌜ r ≡ writtenBack kind hidden (now (memory .entry)) before ⌝ }
 {
+    let ralu = hidden.ralu;
     let flags = before.flags;
     match kind {
         Kind::Undefined => before,
         Kind::Binary(_) => to_rt(before, ralu),
         Kind::Constant(_) => to_rt(before, ralu),
-        Kind::Ld => to_rt(before, words::read(memory, ralu)),
+        Kind::Ld => load(before, words::read(memory, ralu)),
         Kind::St => with_store(before, ralu, before.rt),
         Kind::Unary(_) => to_rt(before, ralu),
         Kind::Nop => before,
@@ -259,7 +308,7 @@ pub fn write_back(kind: Kind, rb: u16, ralu: u16, memory: &[u16], before: Effect
         Kind::Ldsp => to_sp(before, ralu),
         Kind::Rts => to_pc(to_sp(before, ralu), words::read(memory, ralu)),
         Kind::Pop => to_rt(to_sp(before, ralu), words::read(memory, ralu)),
-        Kind::Push => push(before, rb),
+        Kind::Push => push(before, hidden.rb),
         Kind::Jump(condition, _) => jump(before, isa::is_taken(condition, flags), ralu),
         Kind::Call(_) => to_pc(push(before, before.pc), ralu),
     }

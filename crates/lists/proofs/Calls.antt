@@ -5,26 +5,26 @@ use mathlib.Core.List.{List, [], _∷_, _++_}
 use Prim.Native.Nat.{ℕ, _+_, _≤_}
 use native.Mathlib.Omega.{arith}
 use native.Mathlib.Nat.{zero-add, add-assoc}
-use borrow.Author.Tests.{eqb-true}
+use borrow.Author.Tests.{eqb-true, eq-eqb}
 use lib.Dec.{eqb}
 use lib.ListN.{length}
-use Rattle.isa.specs.Cost.{costOf}
-use Rattle.table.specs.Table.{kindOf}
 use Rattle.effects.specs.declared.Stop.{Stop}
 use Rattle.effects.specs.declared.Stop.the-variants.{Going, Halted, Undefined}
 use Rattle.core.specs.State.{visibleOf, freshCore}
-use Rattle.core.specs.Instruction.{after, memoryAfter, costAt, instructed}
+use Rattle.core.specs.Spent.{dueOne}
+use Rattle.core.specs.Instruction.{after, memoryAfter, wordTakes, takes, instructed}
 use Rattle.core.specs.Numbers.{wrongLength, isGoing, loadNumber, runNumber, stepNumber, viewNumber}
 use Rattle.core.specs.Calls as core
-use Rattle.core.specs.Calls.{ran, viewed, Progress, cyclesOn, starting, endOf, dueOne}
+use Rattle.core.specs.Calls.{ran, viewed, Progress, cyclesOn, starting, endOf}
 use Rattle.core.specs.declared.Core.{Core}
+use Rattle.core.proofs.Spent.{due-of-spent}
 use Rattle.core.proofs.Refusals.{none-applies}
 use Rattle.core.proofs.Cycles.{cycles-add, counted, cycles-counted}
 use Rattle.lists.specs.Machine as machine
 use Rattle.lists.specs.Machine.{Machine, Logged, cyclesOf, looped, loopOf, used, spentAfter, noneSpent, stepped}
 use Rattle.lists.specs.Theorem.{Call, reset, load, run, step, view, onCore, onMachine, logAfter}
 use Rattle.lists.proofs.Runs.{Arrived, loopAt, arrives, spent-going, spent-stopped}
-use Rattle.lists.proofs.Relation.{Related, at-rest, rest, seen, resumed, due-one, due-in-range}
+use Rattle.lists.proofs.Relation.{Related, at-rest, rest, seen, resumed, due-one}
 
 pub record Same (r : core.Reply) (s : machine.Reply) (log : List Logged) : Type 0 where
   pub answer : r .answer ≡ s .answer
@@ -55,8 +55,8 @@ cycles-append : (new old : List Logged) → cyclesOf (new ++ old) ≡ cyclesOf n
 unfolding cyclesOf
 cycles-append [] old = sym (zero-add (cyclesOf old))
 cycles-append (x ∷ new) old =
-    ap (λ (n : ℕ). costOf (kindOf (x .word)) (x .flags) + n) (cycles-append new old)
-    ∙ sym (add-assoc (costOf (kindOf (x .word)) (x .flags)) (cyclesOf new) (cyclesOf old))
+    ap (λ (n : ℕ). wordTakes (x .word) (x .flags) + n) (cycles-append new old)
+    ∙ sym (add-assoc (wordTakes (x .word) (x .flags)) (cyclesOf new) (cyclesOf old))
 
 -- with none spent, core and machine show the same
 pub visible-same : {c : Core} {m : Machine} {log : List Logged} → Related c m log → m .spent ≡ 0 → visibleOf c ≡ m .visible
@@ -89,7 +89,7 @@ module _ (c : Core) (m : Machine) (log : List Logged) (r : Related c m log) wher
       record {
         answer = refl;
         memory = refl;
-        related = rest c _ log none (seen r .due ∙ omega arith) (visible-same r none) (seen r .clock) (omega arith);
+        related = rest c _ log none (due-one (seen r) ∙ eq-eqb (m .spent) 0 none) (visible-same r none) (seen r .clock) (omega arith);
       }
 
   view-same : Same (core.view c (m .memory)) (machine.view m) (machine.view m .log ++ log)
@@ -98,20 +98,20 @@ module _ (c : Core) (m : Machine) (log : List Logged) (r : Related c m log) wher
       unless-same c m log _ _ _ _ (ap viewNumber (due-one (seen r))) r
       λ e. let none = none-spent m (rw (due-one (seen r)) at (none-applies 6 (not (dueOne c)) [] e .0)) in
       let visible = visible-same r none in
-      let due = seen r .due in
+      let due = due-of-spent c (seen r .due) ∙ ap (λ (n : ℕ). n + 1) (seen r .spent) in
       let clock = seen r .clock in
       record { answer = λ j. viewed (visible j) (due j) (clock j); memory = refl; related = r }
 
   -- one instruction by both
   step-taken : m .spent ≡ 0
-      → Same (core.steppedReply (costAt (m .memory) (visibleOf c)) (instructed (m .memory) c) (m .memory)) (stepped m)
+      → Same (core.steppedReply (takes (m .memory) (visibleOf c)) (instructed (m .memory) c) (m .memory)) (stepped m)
       (stepped m .log ++ log)
-  unfolding instructed memoryAfter cyclesOf costAt
+  unfolding instructed memoryAfter cyclesOf takes
   step-taken none =
       let visible = visible-same r none in
       let clock = seen r .clock in
       let total = r .total in
-      let cost = ap (costAt (m .memory)) visible in
+      let cost = ap (takes (m .memory)) visible in
       record {
         answer = λ j. ran (cost j) 1 (endOf (after (m .memory) (visible j) .stop) true);
         memory = ap (memoryAfter (m .memory)) visible;
@@ -191,7 +191,7 @@ module _ (c : Core) (m : Machine) (log : List Logged) (r : Related c m log) wher
   unfolding core.run machine.run
   run-same b =
       let stop = seen r .stop in
-      let due = due-in-range (seen r) in
+      let due = seen r .due in
       let clock = seen r .clock in
       unless-same c m log _ _ _ _ (λ j. runNumber (length (m .memory)) (stop j) (due j) (clock j) b) r (λ _. run-taken b)
 

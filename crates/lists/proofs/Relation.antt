@@ -1,17 +1,18 @@
 -- How a core stands to the machine between calls: it is as many cycles into the machine's next instruction as the machine has spent.
 use mathlib.Core.Path.{_≡_, refl, sym, ap, _∙_}
-use mathlib.Core.Bool.{Bool, true, false}
+use mathlib.Core.Bool.{Bool, true, false, cond}
 use mathlib.Core.List.{List}
-use Prim.Native.Nat.{ℕ, zero, suc, _+_, _<_}
+use Prim.Native.Nat.{ℕ, _+_, _<_}
 use native.Mathlib.Omega.{arith}
-use borrow.Author.Tests.{le-leb, ne-eqb}
 use lib.Dec.{eqb}
 use Rattle.core.specs.State.{Visible, visibleOf}
-use Rattle.core.specs.Instruction.{costAt}
+use Rattle.core.specs.Spent.{spentOf, dueInRange, dueOne}
+use Rattle.core.specs.Instruction.{takes}
 use Rattle.core.specs.Numbers.{isGoing}
-use Rattle.core.specs.Calls.{Progress, cyclesOn, starting, dueOne, dueInRange}
+use Rattle.core.specs.Calls.{Progress, cyclesOn, starting}
 use Rattle.core.specs.Theorems.{Midway}
 use Rattle.core.specs.declared.Core.{Core}
+use Rattle.core.proofs.Spent.{none-spent, range-when-one}
 use Rattle.core.proofs.Cycles.{only-going, no-cycle, counted, cost-range}
 use Rattle.core.proofs.OneInstruction.{one-instruction}
 use Rattle.lists.specs.Machine.{Machine, Logged, cyclesOf, noneSpent}
@@ -19,17 +20,18 @@ use Rattle.lists.specs.Machine.{Machine, Logged, cyclesOf, noneSpent}
 pub record Related (c : Core) (m : Machine) (log : List Logged) : Type 0 where
   -- the core at the start of that instruction
   pub start : Core
-  pub due : start .due ≡ 1
+  pub due : dueOne start ≡ true
   pub visible : visibleOf start ≡ m .visible
   pub core : c ≡ cyclesOn (m .spent) (starting start (m .memory)) .core
-  pub within : isGoing (m .visible .stop) ≡ true → m .spent < costAt (m .memory) (m .visible)
+  pub within : isGoing (m .visible .stop) ≡ true → m .spent < takes (m .memory) (m .visible)
   pub still : isGoing (m .visible .stop) ≡ false → m .spent ≡ 0
   pub clock : start .clock .0 + m .spent ≡ m .clock
   pub total : cyclesOf log + m .spent ≡ m .clock
 
 -- what is to be seen of it
 pub record Seen (c : Core) (m : Machine) : Type 0 where
-  pub due : c .due ≡ m .spent + 1
+  pub due : dueInRange c ≡ true
+  pub spent : spentOf c ≡ m .spent
   pub stop : c .stop ≡ m .visible .stop
   pub clock : c .clock .0 ≡ m .clock
   pub few : m .spent < 4
@@ -40,7 +42,7 @@ at-rest {c} {m} r e =
     r .core ∙ ap (λ (n : ℕ). cyclesOn n (starting (r .start) (m .memory)) .core) e
     ∙ ap (λ (p : Progress). p .core) (no-cycle (starting (r .start) (m .memory)))
 
-pub rest : (c : Core) (m : Machine) (log : List Logged) → m .spent ≡ 0 → c .due ≡ 1 → visibleOf c ≡ m .visible
+pub rest : (c : Core) (m : Machine) (log : List Logged) → m .spent ≡ 0 → dueOne c ≡ true → visibleOf c ≡ m .visible
     → c .clock .0 ≡ m .clock → cyclesOf log ≡ m .clock → Related c m log
 rest c m log s d v t e =
     record {
@@ -71,7 +73,8 @@ module _ {c : Core} {m : Machine} {log : List Logged} (r : Related c m log) wher
       let h = r .within g in
       let few = cost-range (m .memory) (m .visible) .1 in
       record {
-        due = ap (λ (c : Core). c .due) (r .core) ∙ mid .due;
+        due = ap dueInRange (r .core) ∙ mid .due;
+        spent = ap spentOf (r .core) ∙ mid .spent;
         stop = ap (λ (c : Core). c .stop) (r .core) ∙ mid .going ∙ sym (only-going (m .visible .stop) g);
         clock = ap (λ (c : Core). c .clock .0) (r .core) ∙ mid .clock ∙ r .clock;
         few = omega arith;
@@ -82,7 +85,8 @@ module _ {c : Core} {m : Machine} {log : List Logged} (r : Related c m log) wher
       let none = r .still e in
       let same = at-rest r none in
       record {
-        due = ap (λ (c : Core). c .due) same ∙ r .due ∙ (omega arith);
+        due = ap dueInRange same ∙ range-when-one (r .start) (r .due);
+        spent = ap spentOf same ∙ none-spent (r .start) (r .due) ∙ sym none;
         stop = ap (λ (c : Core). c .stop) same ∙ ap (λ (v : Visible). v .stop) (r .visible);
         clock = ap (λ (c : Core). c .clock .0) same ∙ (omega (arith, r .clock));
         few = omega arith;
@@ -117,15 +121,6 @@ module _ {c : Core} {m : Machine} {log : List Logged} (r : Related c m log) wher
           ∙ no-cycle (starting (r .start) (m .memory))
           ∙ (λ j. record { core = core j; memory = m .memory; used = used j; finished = 0 })
 
--- the facts that the numbers ask for
+-- what the numbers and the letter ask for
 pub due-one : {c : Core} {m : Machine} → Seen c m → dueOne c ≡ noneSpent m
-due-one {c} {m} s = rw (s .due) (by (m .spent))
-  where
-    by : (n : ℕ) → eqb (n + 1) 1 ≡ eqb n 0
-    by zero = refl
-    by (suc n) = ne-eqb (suc n + 1) 1 (λ e. omega arith) ∙ sym (ne-eqb (suc n) 0 (λ e. omega arith))
-
-pub due-in-range : {c : Core} {m : Machine} → Seen c m → dueInRange c ≡ true
-due-in-range {c} {m} s =
-    let few = s .few in
-    rw (s .due) (rw (le-leb 1 (m .spent + 1) (omega arith), le-leb (m .spent + 1) 4 (omega arith)))
+due-one s = let due = s .due in let spent = s .spent in λ j. cond (due j) (eqb (spent j) 0) false

@@ -11,7 +11,8 @@ use lib.ListN.{length}
 use Rattle.effects.specs.declared.Stop.{Stop}
 use Rattle.effects.specs.declared.Stop.the-variants.{Going, Halted, Undefined}
 use Rattle.core.specs.State.{visibleOf}
-use Rattle.core.specs.Instruction.{wordDue, costAt}
+use Rattle.core.specs.Spent.{dueOne}
+use Rattle.core.specs.Instruction.{wordDue, takes}
 use Rattle.core.specs.Numbers.{isGoing}
 use Rattle.core.specs.Calls.{Progress, cyclesOn, starting}
 use Rattle.core.specs.declared.Core.{Core}
@@ -21,7 +22,7 @@ use Rattle.lists.specs.Machine.{Logged, cyclesOf, Loop, goesOn, afterOne
 
 -- the cost of the instruction at the start of which p is
 abbrev costNow : Progress → ℕ
-costNow p = costAt (p .memory) (visibleOf (p .core))
+costNow p = takes (p .memory) (visibleOf (p .core))
 
 -- the loop at the start of an instruction of p
 abbrev pub loopAt : Progress → ℕ → List Logged → Loop
@@ -30,11 +31,11 @@ loopAt p t log = record { visible = visibleOf (p .core); memory = p .memory; t =
 -- where the cycles end: from p and x on, at q and y. `start` is the core at the start of the instruction that is unfinished, if one is
 pub record Arrived (p q : Progress) (x y : Loop) : Type 0 where
   pub start : Core
-  pub due : start .due ≡ 1
+  pub due : dueOne start ≡ true
   pub visible : visibleOf start ≡ y .visible
   pub memory : q .memory ≡ y .memory
   pub core : q .core ≡ cyclesOn (spentAfter (y .visible .stop) (y .t)) (starting start (y .memory)) .core
-  pub within : isGoing (y .visible .stop) ≡ true → y .t < costAt (y .memory) (y .visible)
+  pub within : isGoing (y .visible .stop) ≡ true → y .t < takes (y .memory) (y .visible)
   pub less : y .t ≤ x .t
   pub clock : start .clock .0 + y .t ≡ p .core .clock .0 + x .t
   pub used : q .used ≡ p .used + used (y .visible .stop) (x .t) (y .t)
@@ -72,7 +73,7 @@ from-nothing n p =
     ∙ ap (λ (q : Progress). q .core) (cycles-counted n (p .used) (p .finished) (starting (p .core) (p .memory)))
 
 -- the loop ends where the core is stopped
-ends-stopped : (t : ℕ) (log : List Logged) (p : Progress) → p .core .due ≡ 1 → isGoing (p .core .stop) ≡ false
+ends-stopped : (t : ℕ) (log : List Logged) (p : Progress) → dueOne (p .core) ≡ true → isGoing (p .core .stop) ≡ false
     → Arrived p (cyclesOn t p) (loopAt p t log) (loopAt p t log)
 ends-stopped t log p d e =
     let stays = none-more t p e in
@@ -95,8 +96,8 @@ ends-stopped t log p d e =
     }
 
 -- or where the next instruction costs more than is left
-ends-within : (t : ℕ) (log : List Logged) (p : Progress) → p .core .due ≡ 1 → isGoing (p .core .stop) ≡ true
-    → t < costAt (p .memory) (visibleOf (p .core)) → Arrived p (cyclesOn t p) (loopAt p t log) (loopAt p t log)
+ends-within : (t : ℕ) (log : List Logged) (p : Progress) → dueOne (p .core) ≡ true → isGoing (p .core .stop) ≡ true
+    → t < takes (p .memory) (visibleOf (p .core)) → Arrived p (cyclesOn t p) (loopAt p t log) (loopAt p t log)
 ends-within t log p d g l =
     let mid = one-instruction p (only-going (p .core .stop) g) d .0 t l in
     record {
@@ -124,11 +125,11 @@ here p = record { word = wordDue (p .memory) (visibleOf (p .core)); flags = p .c
 
 -- an instruction before: from the start of the next to the start of this one
 one-before : (t t′ : ℕ) (log : List Logged) (p p′ q : Progress) (y : Loop) → Finished p p′
-    → t ≡ costAt (p .memory) (visibleOf (p .core)) + t′
+    → t ≡ takes (p .memory) (visibleOf (p .core)) + t′
     → Arrived p′ q (loopAt p′ t′ (here p ∷ log)) y → Arrived p q (loopAt p t log) y
-unfolding cyclesOf costAt
+unfolding cyclesOf takes
 one-before t t′ log p p′ q y f e a =
-    let c = costAt (p .memory) (visibleOf (p .core)) in
+    let c = takes (p .memory) (visibleOf (p .core)) in
     let s = y .visible .stop in
     record {
       start = a .start;
@@ -148,14 +149,14 @@ one-before t t′ log p p′ q y f e a =
 
 -- an instruction executed
 next : (t : ℕ) (log : List Logged) (p p′ : Progress) → Finished p p′
-    → afterOne (loopAt p t log) ≡ loopAt p′ (t - costAt (p .memory) (visibleOf (p .core))) (here p ∷ log)
+    → afterOne (loopAt p t log) ≡ loopAt p′ (t - takes (p .memory) (visibleOf (p .core))) (here p ∷ log)
 next t log p p′ f =
     let visible = sym (f .visible) in
     let memory = sym (f .memory) in
     λ j. record {
       visible = visible j;
       memory = memory j;
-      t = t - costAt (p .memory) (visibleOf (p .core));
+      t = t - takes (p .memory) (visibleOf (p .core));
       log = here p ∷ log;
     }
 
@@ -169,7 +170,7 @@ unfolding looped
 one-turn n x e = rw e
 
 -- where it ends it has arrived; what is left is where it goes on
-arrives-if : (n t : ℕ) (log : List Logged) (p : Progress) → p .core .due ≡ 1
+arrives-if : (n t : ℕ) (log : List Logged) (p : Progress) → dueOne (p .core) ≡ true
     → (isGoing (p .core .stop) ≡ true → costNow p ≤ t
     → Arrived p (cyclesOn t p) (loopAt p t log) (looped n (loopAt p t log)))
     → Arrived p (cyclesOn t p) (loopAt p t log) (looped n (loopAt p t log))
@@ -186,14 +187,14 @@ arrives-if n t log p d go = by (isGoing (p .core .stop)) refl (leb (costNow p) t
         (ends-stopped t log p d g)
 
 -- the loop, from every instruction's start
-pub arrives : (n t : ℕ) (log : List Logged) (p : Progress) → p .core .due ≡ 1 → t ≤ n
+pub arrives : (n t : ℕ) (log : List Logged) (p : Progress) → dueOne (p .core) ≡ true → t ≤ n
     → Arrived p (cyclesOn t p) (loopAt p t log) (looped n (loopAt p t log))
 arrives zero t log p d l =
     arrives-if zero t log p d (λ g m. absurd (omega (arith, cost-range (p .memory) (visibleOf (p .core)) .0)))
 arrives (suc n) t log p d l = arrives-if (suc n) t log p d (λ g m. on g m (arrives n))
   where
     on : isGoing (p .core .stop) ≡ true → costNow p ≤ t
-        → ((t : ℕ) (log : List Logged) (p : Progress) → p .core .due ≡ 1 → t ≤ n
+        → ((t : ℕ) (log : List Logged) (p : Progress) → dueOne (p .core) ≡ true → t ≤ n
         → Arrived p (cyclesOn t p) (loopAt p t log) (looped n (loopAt p t log)))
         → Arrived p (cyclesOn t p) (loopAt p t log) (looped (suc n) (loopAt p t log))
     on g m ih =

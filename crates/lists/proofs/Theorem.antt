@@ -22,6 +22,7 @@ one-more e g =
       stop = g .stop;
       due = g .due;
       spent = g .spent;
+      at-most-three = g .at-most-three;
       visible = g .visible;
       total = g .total;
     }
@@ -37,7 +38,8 @@ agrees [] c m log r =
       clock = s .clock;
       stop = s .stop;
       due = s .due;
-      spent = let few = s .few in omega arith;
+      spent = s .spent;
+      at-most-three = let few = s .few in omega arith;
       visible = visible-same r;
       total = s .clock ∙ sym (r .total);
     }

@@ -4,14 +4,12 @@ use mathlib.Core.List.{List, [], _∷_}
 use Prim.Native.Nat.{ℕ, zero, suc, _+_, _-_}
 use lib.Dec.{eqb, leb}
 use lib.ListN.{length}
-use Rattle.isa.specs.Cost.{costOf}
 use Rattle.isa.specs.declared.Flags.{Flags}
-use Rattle.table.specs.Table.{kindOf}
 use Rattle.listing.specs.Listing.{listingAnswer, listingMemory}
 use Rattle.effects.specs.declared.Stop.{Stop}
 use Rattle.effects.specs.declared.Stop.the-variants.{Going, Halted, Undefined}
 use Rattle.core.specs.State.{Visible, freshVisible}
-use Rattle.core.specs.Instruction.{wordDue, after, memoryAfter, costAt}
+use Rattle.core.specs.Instruction.{wordDue, after, memoryAfter, wordTakes, takes}
 use Rattle.core.specs.Numbers.{isGoing, loadNumber, runNumber, stepNumber, viewNumber}
 use Rattle.core.specs.Calls.{Answer, done, ran, viewed, refused, endOf, loadAnswer}
 
@@ -31,10 +29,10 @@ pub record Logged : Type 0 where
   pub word : ℕ
   pub flags : Flags
 
--- the cycles of the instructions of a log, each 2, 3 or 4 by the table of costs
+-- the cycles of the instructions of a log, each what it takes by its word and flags
 unfoldable pub cyclesOf : List Logged → ℕ
 cyclesOf [] = 0
-cyclesOf (x ∷ rest) = costOf (kindOf (x .word)) (x .flags) + cyclesOf rest
+cyclesOf (x ∷ rest) = wordTakes (x .word) (x .flags) + cyclesOf rest
 
 -- what a call gives back; the log has the instructions that it executed, the last one first
 pub record Reply : Type 0 where
@@ -77,7 +75,7 @@ pub record Loop : Type 0 where
 
 -- 'while going and the cost c of the instruction at PC is at most t'
 abbrev pub goesOn : Loop → Bool
-goesOn x = cond (isGoing (x .visible .stop)) (leb (costAt (x .memory) (x .visible)) (x .t)) false
+goesOn x = cond (isGoing (x .visible .stop)) (leb (takes (x .memory) (x .visible)) (x .t)) false
 
 -- 'execute it and take c from t'
 abbrev pub afterOne : Loop → Loop
@@ -85,7 +83,7 @@ afterOne x =
     record {
       visible = after (x .memory) (x .visible);
       memory = memoryAfter (x .memory) (x .visible);
-      t = x .t - costAt (x .memory) (x .visible);
+      t = x .t - takes (x .memory) (x .visible);
       log = record { word = wordDue (x .memory) (x .visible); flags = x .visible .flags } ∷ x .log;
     }
 
@@ -135,12 +133,12 @@ run b m =
 abbrev pub stepped : Machine → Reply
 stepped m =
     record {
-      answer = ran (costAt (m .memory) (m .visible)) 1 (endOf (after (m .memory) (m .visible) .stop) true);
+      answer = ran (takes (m .memory) (m .visible)) 1 (endOf (after (m .memory) (m .visible) .stop) true);
       machine =
           record {
             visible = after (m .memory) (m .visible);
             memory = memoryAfter (m .memory) (m .visible);
-            clock = m .clock + costAt (m .memory) (m .visible);
+            clock = m .clock + takes (m .memory) (m .visible);
             spent = 0;
           };
       log = record { word = wordDue (m .memory) (m .visible); flags = m .visible .flags } ∷ [];

@@ -12,9 +12,11 @@
 -- The code's numbers of 8 to 64 bits are among the natural numbers, for all of which the theorem holds. Of cores and memories that
 -- the caller changes between calls only the contracts speak.
 use mathlib.Core.Path.{_≡_}
+use mathlib.Core.Bool.{true}
 use mathlib.Core.List.{List, [], _∷_, _++_}
 use Prim.Native.Nat.{ℕ, _+_, _≤_}
 use Rattle.core.specs.State.{visibleOf, freshCore}
+use Rattle.core.specs.Spent.{spentOf, dueInRange}
 use Rattle.core.specs.Calls as core
 use Rattle.core.specs.declared.Core.{Core}
 use Rattle.lists.specs.Machine as machine
@@ -80,15 +82,16 @@ playMachine (call ∷ rest) m old =
     responding (onMachine call m .answer)
     (playMachine rest (onMachine call m .machine) (logAfter call (onMachine call m .log) old))
 
--- what agrees: every answer, the memory, the clock T, the stop state, s with the cycle due less one (0 to 3), and, where s is 0, R0 to
--- R15, PC, SP and flags; and the clock is the sum of the cycles of the instructions in the log plus s
+-- what agrees: every answer, the memory, the clock T, the stop state, s with the cycles spent on the core (the cycle due, one of 1 to 4, less
+-- one), and, where s is 0, R0 to R15, PC, SP and flags; and the clock is the sum of the cycles of the instructions in the log plus s
 pub record Agree (c : CorePlay) (m : MachinePlay) : Type 0 where
   pub answers : c .answers ≡ m .answers
   pub memory : c .memory ≡ m .machine .memory
   pub clock : c .core .clock .0 ≡ m .machine .clock
   pub stop : c .core .stop ≡ m .machine .visible .stop
-  pub due : c .core .due ≡ m .machine .spent + 1
-  pub spent : m .machine .spent ≤ 3
+  pub due : dueInRange (c .core) ≡ true
+  pub spent : spentOf (c .core) ≡ m .machine .spent
+  pub at-most-three : m .machine .spent ≤ 3
   pub visible : m .machine .spent ≡ 0 → visibleOf (c .core) ≡ m .machine .visible
   pub total : c .core .clock .0 ≡ cyclesOf (m .log) + m .machine .spent
 

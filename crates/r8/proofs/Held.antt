@@ -12,14 +12,16 @@ use Rattle.table.specs.Table.{kindOf}
 use Rattle.effects.specs.Cycles.{stopOf}
 use Rattle.effects.specs.declared.Stop.{Stop}
 use Rattle.effects.specs.declared.Stop.the-variants.{Going, Halted, Undefined}
+use Rattle.core.specs.Spent.{dueOne, dueInRange}
 use Rattle.core.specs.Datapath.{second, laterCycle, cycled}
 use Rattle.core.specs.Instruction.{after, instructed}
 use Rattle.core.specs.Numbers.{isGoing, runNumber, stepNumber}
-use Rattle.core.specs.Calls.{Reply, Progress, advanced, cyclesOn, starting, dueOne, dueInRange, run, step}
+use Rattle.core.specs.Calls.{Reply, Progress, advanced, cyclesOn, starting, run, step}
 use Rattle.core.specs.declared.Core.{Core}
 use Rattle.core.specs.declared.Turn.{Turn}
 use Rattle.core.proofs.Cycles.{no-cycle, one-more, none-more}
-use Rattle.core.proofs.Refusals.{ready, due-when}
+use Rattle.core.proofs.Spent.{due-when}
+use Rattle.core.proofs.Refusals.{ready}
 use Rattle.core.proofs.Again.{due-stays}
 use Rattle.r8.specs.Theorems.{Held}
 
@@ -35,7 +37,7 @@ second-bank Undefined kind core = refl
 cycle-bank : (memory : List ℕ) (core : Core) → length (cycled memory core .core .regs) ≡ length (core .regs)
 unfolding cycled laterCycle
 cycle-bank memory core =
-    let kind = kindOf (core .ir) in
+    let kind = kindOf (core .hidden .ir) in
     let same : Turn → Type 0 = λ t. length (t .core .regs) ≡ length (core .regs) in
     either same (eqb (core .due) 1) (λ _. refl)
     (either same (eqb (core .due) 2) (λ _. second-bank (stopOf kind) kind core)
@@ -58,8 +60,8 @@ pub run-held : (core : Core) (memory : List ℕ) (b : ℕ) → Held core → Hel
 unfolding run held
 run-held core memory b h =
     either held (eqb (runNumber (length memory) (core .stop) (dueInRange core) (core .clock .0) b) 0)
-    (λ e. let due = due-when core (ready _ _ _ _ _ (eqb-true _ _ e) .due) in
-    (cycles-bank b (starting core memory) ∙ h .0, omega (arith, due-stays b (starting core memory) (due .0) (due .1) .1)))
+    (λ e. let due = due-stays b (starting core memory) (ready _ _ _ _ _ (eqb-true _ _ e) .due) in
+    (cycles-bank b (starting core memory) ∙ h .0, omega (arith, due-when (cyclesOn b (starting core memory) .core) due .1)))
     h
 
 pub step-held : (core : Core) (memory : List ℕ) → Held core → Held (step core memory .core)

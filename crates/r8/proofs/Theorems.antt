@@ -11,6 +11,8 @@ use borrow.Author.Tests.{eqb-true, eqb-false, eq-eqb, le-leb, le-ltb}
 use Rattle.words.specs.Arithmetic.{bit}
 use Rattle.effects.specs.declared.Stop.{Stop}
 use Rattle.effects.specs.declared.Stop.the-variants.{Going, Halted, Undefined}
+use Rattle.effects.specs.Hidden.{noHidden, withIr, withRaRb, withRalu}
+use Rattle.core.specs.State.{freshCore, withRegs, withPc, withSp, withFlags, withHidden, withDue, stopped, withClock}
 use Rattle.core.specs.Calls.{run}
 use Rattle.core.proofs.Again.{run-again}
 use Rattle.layout.specs.Layout.{flagsNumber, isOdd, flagsOf, stopNumber, answerSize, answerNumbers}
@@ -59,7 +61,7 @@ stop-number (suc (suc (suc n))) h = absurd (omega arith)
 pub core-back : CoreBack
 unfolding isCore
 core-back core h =
-    let six = core .pc ∷ core .sp ∷ core .ir ∷ core .ra ∷ core .rb ∷ core .ralu ∷ [] in
+    let six = core .pc ∷ core .sp ∷ core .hidden .ir ∷ core .hidden .ra ∷ core .hidden .rb ∷ core .hidden .ralu ∷ [] in
     let size : length (registersOf core) ≡ 22 = length-append (core .regs) six ∙ ap (λ (n : ℕ). n + 6) (h .0) in
     let behind : (n : ℕ) → getD (registersOf core) (16 + n) 0 ≡ getD six n 0 =
     λ n. ap (λ (k : ℕ). getD (registersOf core) (k + n) 0) (sym (h .0)) ∙ getD-append-add (core .regs) six n 0 in
@@ -67,19 +69,11 @@ core-back core h =
     let flags = flags-back (core .flags) in
     let stop = stop-back (core .stop) in (
       rw (eq-eqb _ _ size, le-leb _ _ (flags-small (core .flags)), le-leb _ _ (stop-small (core .stop)), le-leb _ _ (h .1)),
-      λ j. record {
-        regs = regs j;
-        pc = behind 0 j;
-        sp = behind 1 j;
-        flags = flags j;
-        ir = behind 2 j;
-        ra = behind 3 j;
-        rb = behind 4 j;
-        ralu = behind 5 j;
-        due = core .due;
-        stop = stop j;
-        clock = core .clock;
-      },
+      λ j. withRegs (regs j)
+          (withPc (behind 0 j)
+          (withSp (behind 1 j)
+          (withHidden (withRalu (behind 5 j) (withRaRb (behind 3 j) (behind 4 j) (withIr (behind 2 j) noHidden)))
+          (withFlags (flags j) (stopped (stop j) (withDue (core .due) (withClock (core .clock .0) freshCore))))))),
     )
 
 -- a list of 22, and one of four, by its elements

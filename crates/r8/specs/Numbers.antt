@@ -6,6 +6,9 @@ use lib.Dec.{eqb, leb}
 use lib.ListN.{length, getD, take}
 use Rattle.effects.specs.declared.Stop.{Stop}
 use Rattle.effects.specs.declared.Stop.the-variants.{Going, Halted, Undefined}
+use Rattle.effects.specs.Hidden.{noHidden, withIr, withRaRb, withRalu}
+use Rattle.effects.specs.declared.Hidden.{Hidden}
+use Rattle.core.specs.State.{freshCore, withRegs, withPc, withSp, withFlags, withHidden, withDue, stopped, withClock}
 use Rattle.core.specs.declared.Core.{Core}
 use Rattle.layout.specs.Layout.{flagsNumber, flagsOf, stopNumber}
 
@@ -17,7 +20,8 @@ stateSize = 4
 
 abbrev pub registersOf : Core → List ℕ
 registersOf core =
-    core .regs ++ (core .pc ∷ core .sp ∷ core .ir ∷ core .ra ∷ core .rb ∷ core .ralu ∷ [])
+    core .regs
+    ++ (core .pc ∷ core .sp ∷ core .hidden .ir ∷ core .hidden .ra ∷ core .hidden .rb ∷ core .hidden .ralu ∷ [])
 
 abbrev pub stateOf : Core → List ℕ
 stateOf core = flagsNumber (core .flags) ∷ stopNumber (core .stop) ∷ core .due ∷ core .clock .0 ∷ []
@@ -26,21 +30,19 @@ stateOf core = flagsNumber (core .flags) ∷ stopNumber (core .stop) ∷ core .d
 abbrev pub stopOf : ℕ → Stop
 stopOf n = cond (eqb n 0) Going (cond (eqb n 1) Halted Undefined)
 
+abbrev pub hiddenOf : List ℕ → Hidden
+hiddenOf registers =
+    withRalu (getD registers 21 0)
+    (withRaRb (getD registers 19 0) (getD registers 20 0) (withIr (getD registers 18 0) noHidden))
+
 abbrev pub coreOf : List ℕ → List ℕ → Core
 coreOf registers state =
-    record {
-      regs = take 16 registers;
-      pc = getD registers 16 0;
-      sp = getD registers 17 0;
-      flags = flagsOf (getD state 0 0);
-      ir = getD registers 18 0;
-      ra = getD registers 19 0;
-      rb = getD registers 20 0;
-      ralu = getD registers 21 0;
-      due = getD state 2 0;
-      stop = stopOf (getD state 1 0);
-      clock = record { 0 = getD state 3 0 };
-    }
+    withRegs (take 16 registers)
+    (withPc (getD registers 16 0)
+    (withSp (getD registers 17 0)
+    (withHidden (hiddenOf registers)
+    (withFlags (flagsOf (getD state 0 0))
+    (stopped (stopOf (getD state 1 0)) (withDue (getD state 2 0) (withClock (getD state 3 0) freshCore)))))))
 
 -- are they a core's: their counts, flags of four bits, a stop state, a cycle due of a byte
 unfoldable pub isCore : List ℕ → List ℕ → Bool

@@ -6,10 +6,11 @@ ghost use Rattle.core.specs.Calls.{run, step};
 ghost use Rattle.core.specs.Answers.{runAnswerOf};
 ghost use Rattle.layout.specs.Layout.{flagsOf, answerNumbers};
 ghost use Rattle.r8.specs.Slices.{onto};
-ghost use Rattle.r8.specs.Numbers.{stopOf, coreOf, registersOf, stateOf, isCore};
+ghost use Rattle.r8.specs.Numbers.{stopOf, hiddenOf, coreOf, registersOf, stateOf, isCore};
 ghost use Rattle.r8.specs.Call.{codeOf, lent, called};
 use core::Core;
 use core::RunReply;
+use effects::Hidden;
 use effects::Stop;
 use isa::Cycles;
 use isa::Flags;
@@ -69,23 +70,35 @@ fn bank_of(registers: &[u16]) -> [u16; 16]
     bank
 }
 
-fn core_of(registers: &[u16], state: &[u32]) -> Core
-    requires { ⌜ (length (now registers) ≡ 22) × (length (now state) ≡ 4) × (getD (now state) 2 0 ≤ 255) ⌝ }
-    ensures { λ r. ⌜ r ≡ coreOf (now (registers .entry)) (now (state .entry)) ⌝ }
+fn hidden_of(registers: &[u16]) -> Hidden
+    requires { ⌜ length (now registers) ≡ 22 ⌝ }
+    ensures { λ r. ⌜ r ≡ hiddenOf (now (registers .entry)) ⌝ }
 {
-    Core {
-        regs: bank_of(registers),
-        pc: registers[16],
-        sp: registers[17],
-        flags: flags_of(state[0]),
+    Hidden {
         ir: registers[18],
         ra: registers[19],
         rb: registers[20],
         ralu: registers[21],
-        due: state[2] as u8,
-        stop: stop_of(state[1]),
-        clock: Cycles(state[3]),
     }
+}
+
+fn core_of(registers: &[u16], state: &[u32]) -> Core
+    requires { ⌜ (length (now registers) ≡ 22) × (length (now state) ≡ 4) × (getD (now state) 2 0 ≤ 255) ⌝ }
+    ensures { λ r. ⌜ r ≡ coreOf (now (registers .entry)) (now (state .entry)) ⌝ }
+{
+    let mut core = core::fresh();
+    let regs = bank_of(registers);
+    let hidden = hidden_of(registers);
+    let flags = flags_of(state[0]);
+    let clock = Cycles(state[3]);
+    core.regs = regs;
+    core.pc = registers[16];
+    core.sp = registers[17];
+    core.hidden = hidden;
+    core.flags = flags;
+    core.due = state[2] as u8;
+    core.clock = clock;
+    core.with_stop(stop_of(state[1]))
 }
 
 fn put_registers(core: Core, registers: &mut [u16])
@@ -96,10 +109,10 @@ fn put_registers(core: Core, registers: &mut [u16])
     super::copy::words(&bank, registers);
     registers[16] = core.pc;
     registers[17] = core.sp;
-    registers[18] = core.ir;
-    registers[19] = core.ra;
-    registers[20] = core.rb;
-    registers[21] = core.ralu;
+    registers[18] = core.hidden.ir;
+    registers[19] = core.hidden.ra;
+    registers[20] = core.hidden.rb;
+    registers[21] = core.hidden.ralu;
 }
 
 fn put_state(core: Core, state: &mut [u32])

@@ -6,16 +6,18 @@ use mathlib.Core.List.{List, [], _∷_, _++_}
 use Prim.Native.Nat.{ℕ, zero, suc, _+_, _-_, _*_, _≤_, _<_}
 use native.Mathlib.Omega.{arith}
 use native.Mathlib.Nat.{add-zero}
-use borrow.Author.Tests.{eq-eqb, le-ltb, leb-true, leb-false}
+use borrow.Author.Tests.{le-ltb, leb-true, leb-false}
 use lib.Dec.{leb}
 use lib.ListN.{length}
 use Rattle.words.specs.Memory.{wordAt}
 use Rattle.effects.specs.declared.Stop.the-variants.{Going}
 use Rattle.core.specs.State.{Visible, visibleOf}
-use Rattle.core.specs.Instruction.{after, memoryAfter, costAt, instructed}
+use Rattle.core.specs.Spent.{spentOf, dueOne}
+use Rattle.core.specs.Instruction.{after, memoryAfter, takes, instructed}
 use Rattle.core.specs.Numbers.{wrongLength, isGoing, runNumber}
-use Rattle.core.specs.Calls.{Reply, Progress, advanced, cyclesOn, steppedReply, dueOne, step}
+use Rattle.core.specs.Calls.{Reply, Progress, advanced, cyclesOn, steppedReply, step}
 use Rattle.core.specs.declared.Core.{Core}
+use Rattle.core.proofs.Spent.{none-spent}
 use Rattle.core.proofs.Cycles.{no-cycle, one-more, none-more, cycles-add, only-going, cost-range}
 use Rattle.core.proofs.OneInstruction.{one-finished, one-instruction}
 use Rattle.core.proofs.Replies.{passed, none-left, step-starts, applied-length}
@@ -38,8 +40,8 @@ grows (suc n) p = by (isGoing (p .core .stop)) refl (grows n (advanced p))
 pub record Same (q : Progress) (core : Core) (memory : List ℕ) (b : ℕ) : Type 0 where
   pub visible : visibleOf (q .core) ≡ visibleOf core
   pub words : q .memory ≡ memory
-  pub due : q .core .due ≡ 1
-  pub one : core .due ≡ 1
+  pub due : dueOne (q .core) ≡ true
+  pub one : dueOne core ≡ true
   pub size : length memory ≡ 16384
   pub room : core .clock .0 + b + 4 ≤ 4294967295
 
@@ -56,29 +58,28 @@ record Next (q : Progress) (core : Core) (memory : List ℕ) (b c : ℕ) : Type 
 -- or after the cycles left, with no instruction more
 record Last (q : Progress) (b : ℕ) : Type 0 where
   finished : cyclesOn b q .finished ≡ q .finished
-  used : q .used + cyclesOn b q .core .due ≡ cyclesOn b q .used + 1
+  used : q .used + spentOf (cyclesOn b q .core) ≡ cyclesOn b q .used
 
 module _ (q : Progress) (core : Core) (memory : List ℕ) (b : ℕ) (s : Same q core memory b) where
-  cost : costAt (q .memory) (visibleOf (q .core)) ≡ costAt memory (visibleOf core)
-  cost = λ j. costAt (s .words j) (s .visible j)
+  cost : takes (q .memory) (visibleOf (q .core)) ≡ takes memory (visibleOf core)
+  cost = λ j. takes (s .words j) (s .visible j)
 
-  step-is : core .stop ≡ Going → step core memory ≡ steppedReply (costAt memory (visibleOf core)) (instructed memory core) memory
+  step-is : core .stop ≡ Going → step core memory ≡ steppedReply (takes memory (visibleOf core)) (instructed memory core) memory
   unfolding runNumber
   step-is going =
       let size : wrongLength (length memory) ≡ false = ap wrongLength (s .size) in
-      let due : dueOne core ≡ true = eq-eqb (core .due) 1 (s .one) in
       let clock = le-ltb 4294967295 (core .clock .0 + 4) (omega (arith, s .room)) in
       step-starts core memory
       (passed 1 _ _ size
       ∙ passed 8 _ _ (ap (λ x. not (isGoing x)) going)
-      ∙ passed 7 _ _ (ap not due)
+      ∙ passed 7 _ _ (ap not (s .one))
       ∙ passed 9 _ _ clock
       ∙ none-left)
 
-  taken : q .core .stop ≡ Going → costAt memory (visibleOf core) ≤ b → Next q core memory b (costAt memory (visibleOf core))
+  taken : q .core .stop ≡ Going → takes memory (visibleOf core) ≤ b → Next q core memory b (takes memory (visibleOf core))
   unfolding instructed memoryAfter
   taken going within =
-      let c = costAt memory (visibleOf core) in
+      let c = takes memory (visibleOf core) in
       let f = rw cost at (one-finished q going (s .due)) in
       let stepped = step-is (sym (ap (λ (v : Visible). v .stop) (s .visible)) ∙ going) in
       let put = ap (λ (r : Reply). r .memory) stepped in
@@ -94,7 +95,7 @@ module _ (q : Progress) (core : Core) (memory : List ℕ) (b : ℕ) (s : Same q 
                   ∙ sym (ap (λ (r : Reply). visibleOf (r .core)) stepped);
               words = f .memory ∙ (λ j. memoryAfter (s .words j) (s .visible j)) ∙ sym put;
               due = f .due;
-              one = ap (λ (r : Reply). r .core .due) stepped;
+              one = ap (λ (r : Reply). dueOne (r .core)) stepped;
               size = ap length put ∙ applied-length (instructed memory core .store) memory ∙ s .size;
               room = omega (arith, s .room, ap (λ (r : Reply). r .core .clock .0) stepped);
             };
@@ -104,33 +105,33 @@ module _ (q : Progress) (core : Core) (memory : List ℕ) (b : ℕ) (s : Same q 
       }
 
   -- the cycles left are enough for it; or they are spent in it, or the core is stopped
-  one-way : Next q core memory b (costAt memory (visibleOf core)) ⊎ Last q b
-  one-way = by (isGoing (q .core .stop)) (leb (costAt memory (visibleOf core)) b) refl refl
+  one-way : Next q core memory b (takes memory (visibleOf core)) ⊎ Last q b
+  one-way = by (isGoing (q .core .stop)) (leb (takes memory (visibleOf core)) b) refl refl
     where
-      by : (g w : Bool) → isGoing (q .core .stop) ≡ g → leb (costAt memory (visibleOf core)) b ≡ w
-          → Next q core memory b (costAt memory (visibleOf core)) ⊎ Last q b
+      by : (g w : Bool) → isGoing (q .core .stop) ≡ g → leb (takes memory (visibleOf core)) b ≡ w
+          → Next q core memory b (takes memory (visibleOf core)) ⊎ Last q b
       by false w g h =
           let none = none-more b q g in
-          inr (record { finished = rw none refl; used = rw none (ap (λ (n : ℕ). q .used + n) (s .due)) })
-      by true true g h = inl (taken (only-going (q .core .stop) g) (leb-true (costAt memory (visibleOf core)) b h))
+          inr (record { finished = rw none refl; used = rw none (omega (arith, none-spent (q .core) (s .due))) })
+      by true true g h = inl (taken (only-going (q .core .stop) g) (leb-true (takes memory (visibleOf core)) b h))
       by true false g h =
-          let short = leb-false (costAt memory (visibleOf core)) b h in
+          let short = leb-false (takes memory (visibleOf core)) b h in
           let m = one-instruction q (only-going (q .core .stop) g) (s .due) .0 b (omega (arith, cost, short)) in
-          inr (record { finished = m .finished; used = omega (arith, m .due, m .used) })
+          inr (record { finished = m .finished; used = omega (arith, m .spent, m .used) })
 
-  next : q .finished < cyclesOn b q .finished → Next q core memory b (costAt memory (visibleOf core))
+  next : q .finished < cyclesOn b q .finished → Next q core memory b (takes memory (visibleOf core))
   next more = by one-way
     where
-      by : Next q core memory b (costAt memory (visibleOf core)) ⊎ Last q b → Next q core memory b (costAt memory (visibleOf core))
+      by : Next q core memory b (takes memory (visibleOf core)) ⊎ Last q b → Next q core memory b (takes memory (visibleOf core))
       by (inl n) = n
       by (inr l) = absurd (omega (arith, more, l .finished))
 
   last : cyclesOn b q .finished ≡ q .finished → Last q b
   last none = by one-way
     where
-      by : Next q core memory b (costAt memory (visibleOf core)) ⊎ Last q b → Last q b
+      by : Next q core memory b (takes memory (visibleOf core)) ⊎ Last q b → Last q b
       by (inl n) =
-          let c = costAt memory (visibleOf core) in
+          let c = takes memory (visibleOf core) in
           let all = ap (λ (p : Progress). p .finished) (n .rest) in
           absurd (omega (arith, grows (b - c) (cyclesOn c q), all, none, n .finished))
       by (inr l) = l
@@ -145,23 +146,23 @@ unfolding rowsOf cyclesIn
 spent-more i core memory = refl
 
 -- an instruction's cycles, and those of i steps after it
-module _ (i : ℕ) (q : Progress) (core : Core) (memory : List ℕ) (b : ℕ) (n : Next q core memory b (costAt memory (visibleOf core))) where
-  time : spent (suc i) core memory ≡ costAt memory (visibleOf core) + spent i (step core memory .core) (step core memory .memory)
+module _ (i : ℕ) (q : Progress) (core : Core) (memory : List ℕ) (b : ℕ) (n : Next q core memory b (takes memory (visibleOf core))) where
+  time : spent (suc i) core memory ≡ takes memory (visibleOf core) + spent i (step core memory .core) (step core memory .memory)
   time =
       spent-more i core memory ∙ ap (λ (x : ℕ). x + spent i (step core memory .core) (step core memory .memory)) (n .cycles)
 
   there : cyclesOn (spent (suc i) core memory) q
-      ≡ cyclesOn (spent i (step core memory .core) (step core memory .memory)) (cyclesOn (costAt memory (visibleOf core)) q)
+      ≡ cyclesOn (spent i (step core memory .core) (step core memory .memory)) (cyclesOn (takes memory (visibleOf core)) q)
   there =
       ap (λ (x : ℕ). cyclesOn x q) time
-      ∙ cycles-add (costAt memory (visibleOf core)) (spent i (step core memory .core) (step core memory .memory)) q
+      ∙ cycles-add (takes memory (visibleOf core)) (spent i (step core memory .core) (step core memory .memory)) q
 
 -- a run, cut after the cycles of i steps
 pub record Cut (i t b : ℕ) (q : Progress) : Type 0 where
   pub within : t ≤ b
   pub twice : 2 * i ≤ t
   pub finished : cyclesOn t q .finished ≡ q .finished + i
-  pub due : cyclesOn t q .core .due ≡ 1
+  pub due : dueOne (cyclesOn t q .core) ≡ true
 
 pub cut : (i : ℕ) (q : Progress) (core : Core) (memory : List ℕ) (b : ℕ) → Same q core memory b
     → q .finished + i ≤ cyclesOn b q .finished → Cut i (spent i core memory) b q
@@ -171,10 +172,10 @@ cut zero q core memory b s few =
       within = omega arith;
       twice = omega arith;
       finished = ap (λ (p : Progress). p .finished) (no-cycle q) ∙ sym (add-zero (q .finished));
-      due = ap (λ (p : Progress). p .core .due) (no-cycle q) ∙ s .due;
+      due = ap (λ (p : Progress). dueOne (p .core)) (no-cycle q) ∙ s .due;
     }
 cut (suc i) q core memory b s few =
-    let c = costAt memory (visibleOf core) in
+    let c = takes memory (visibleOf core) in
     let n = next q core memory b s (omega (arith, few)) in
     let all = ap (λ (p : Progress). p .finished) (n .rest) in
     let stepped = step core memory in
@@ -185,18 +186,18 @@ cut (suc i) q core memory b s few =
       within = omega (arith, ih .within, n .within, t);
       twice = omega (arith, ih .twice, n .some, t);
       finished = ap (λ (p : Progress). p .finished) on ∙ (omega (arith, ih .finished, n .finished));
-      due = ap (λ (p : Progress). p .core .due) on ∙ ih .due;
+      due = ap (λ (p : Progress). dueOne (p .core)) on ∙ ih .due;
     }
 
 -- all its cycles
 pub add-up : (i : ℕ) (q : Progress) (core : Core) (memory : List ℕ) (b : ℕ) → Same q core memory b
     → cyclesOn b q .finished ≡ q .finished + i
-    → q .used + spent i core memory + cyclesOn b q .core .due ≡ cyclesOn b q .used + 1
+    → q .used + spent i core memory + spentOf (cyclesOn b q .core) ≡ cyclesOn b q .used
 unfolding rowsOf cyclesIn
 add-up zero q core memory b s all =
-    ap (λ (n : ℕ). n + cyclesOn b q .core .due) (add-zero (q .used)) ∙ last q core memory b s (all ∙ add-zero (q .finished)) .used
+    ap (λ (n : ℕ). n + spentOf (cyclesOn b q .core)) (add-zero (q .used)) ∙ last q core memory b s (all ∙ add-zero (q .finished)) .used
 add-up (suc i) q core memory b s all =
-    let c = costAt memory (visibleOf core) in
+    let c = takes memory (visibleOf core) in
     let n = next q core memory b s (omega (arith, all)) in
     let stepped = step core memory in
     let same = ap (λ (p : Progress). p .finished) (n .rest) in
@@ -208,7 +209,7 @@ abbrev pub rowAfter : Progress → Progress → List ℕ
 rowAfter before after =
     before .core .pc
     ∷ wordAt (before .memory) (before .core .pc)
-    ∷ costAt (before .memory) (visibleOf (before .core))
+    ∷ takes (before .memory) (visibleOf (before .core))
     ∷ flagsNumber (after .core .flags)
     ∷ []
 
@@ -218,7 +219,7 @@ pub row-of : (i : ℕ) (q : Progress) (core : Core) (memory : List ℕ) (b : ℕ
     ≡ rowsOf i core memory ++ rowAfter (cyclesOn (spent i core memory) q) (cyclesOn (spent (suc i) core memory) q)
 unfolding rowsOf cyclesIn
 row-of zero q core memory b s few =
-    let c = costAt memory (visibleOf core) in
+    let c = takes memory (visibleOf core) in
     let n = next q core memory b s (omega (arith, few)) in
     let on = there 0 q core memory b n ∙ no-cycle (cyclesOn c q) in
     let cycles = cost q core memory b s ∙ sym (n .cycles) in
@@ -230,7 +231,7 @@ row-of zero q core memory b s few =
     ∷ flagsNumber (n .same .visible j .flags)
     ∷ []))
 row-of (suc i) q core memory b s few =
-    let c = costAt memory (visibleOf core) in
+    let c = takes memory (visibleOf core) in
     let n = next q core memory b s (omega (arith, few)) in
     let stepped = step core memory in
     let all = ap (λ (p : Progress). p .finished) (n .rest) in

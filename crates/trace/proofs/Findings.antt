@@ -16,7 +16,8 @@ use Rattle.listing.specs.declared.Fault.{Fault}
 use Rattle.isa.specs.declared.Cycles.{Cycles}
 use Rattle.core.specs.State.{freshCore}
 use Rattle.core.specs.Numbers.{wrongLength, firstNumber, loadNumber, runNumber}
-use Rattle.core.specs.Calls.{Answer, ran, refused, refusedAt, Reply, loadAnswer, dueOne, load, loadedReply, cyclesOn, starting, ranReply, run}
+use Rattle.core.specs.Spent.{dueOne}
+use Rattle.core.specs.Calls.{Answer, ran, refused, refusedAt, Reply, loadAnswer, load, loadedReply, cyclesOn, starting, ranReply, run}
 use Rattle.core.specs.declared.End.{End}
 use Rattle.core.specs.Answers.{refusalNumber, loadAnswerOf, loadGave, runAnswerOf, runGave}
 use Rattle.core.specs.declared.Core.{Core}

@@ -7,7 +7,9 @@ use native.Mathlib.Omega.{arith}
 use lib.Dec.{lit≤}
 use lib.ListN.{length}
 use Rattle.core.specs.State.{freshCore}
+use Rattle.core.specs.Spent.{spentOf, dueInRange, dueOne}
 use Rattle.core.specs.Calls.{Reply, cyclesOn, starting, ranReply, run}
+use Rattle.core.proofs.Again.{due-stays}
 use Rattle.trace.specs.Trace.{cyclesOf, instructionsOf, rowsOf, noRoom}
 use Rattle.trace.specs.Theorems.{cyclesIn, RowsOfTheRun, CyclesAddUp, RoomAlways}
 use Rattle.trace.proofs.Findings.{fresh-run, by-cases}
@@ -42,7 +44,7 @@ rows-of-the-run memory i size = (
       let own = cut-run memory size i few in (
         c .within,
         ap (λ (r : Reply). instructionsOf (r .answer)) own ∙ c .finished ∙ (omega arith),
-        ap (λ (r : Reply). r .core .due) own ∙ c .due,
+        ap (λ (r : Reply). dueOne (r .core)) own ∙ c .due,
       ),
   λ few. rw (add-one, cut-run memory size i (omega arith), cut-run memory size (suc i) (omega arith))
       (row-of i (starting freshCore memory) freshCore memory 1000 (start memory size) (omega (arith, count memory size))),
@@ -52,8 +54,10 @@ pub cycles-add-up : CyclesAddUp
 cycles-add-up memory size =
     let n = instructionsOf (run 1000 freshCore memory .answer) in
     let sum = add-up n (starting freshCore memory) freshCore memory 1000 (start memory size) (omega (arith, count memory size)) in
-    let run = whole memory size in
-    omega (arith, sum, ap (λ (r : Reply). r .core .due) run, ap (λ (r : Reply). cyclesOf (r .answer)) run)
+    let run = whole memory size in (
+      ap (λ (r : Reply). dueInRange (r .core)) run ∙ due-stays 1000 (starting freshCore memory) refl,
+      omega (arith, sum, ap (λ (r : Reply). spentOf (r .core)) run, ap (λ (r : Reply). cyclesOf (r .answer)) run),
+    )
 
 pub room-always : RoomAlways
 room-always listing rows long =

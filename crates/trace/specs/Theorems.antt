@@ -1,12 +1,14 @@
 -- The rows come from steps, by the instruction engine: they are those of the run by the datapath, and 2,000 numbers have room for them.
 -- Three statements, proved in proofs/Theorems.antt.
 use mathlib.Core.Path.{_≡_}
+use mathlib.Core.Bool.{true}
 use mathlib.Core.List.{List, [], _∷_, _++_}
 use Prim.Native.Nat.{ℕ, _+_, _≤_, _<_}
 use lib.ListN.{length}
 use Rattle.words.specs.Memory.{wordAt}
 use Rattle.core.specs.State.{visibleOf, freshCore}
-use Rattle.core.specs.Instruction.{costAt}
+use Rattle.core.specs.Spent.{spentOf, dueInRange, dueOne}
+use Rattle.core.specs.Instruction.{takes}
 use Rattle.core.specs.Calls.{Reply, run}
 use Rattle.layout.specs.Layout.{flagsNumber}
 use Rattle.trace.specs.Trace.{cyclesOf, instructionsOf, rowsOf, noRoom, traced}
@@ -32,23 +34,23 @@ RowsOfTheRun =
     let before : Reply = cutAt i memory in
     let after : Reply = cutAt (i + 1) memory in
     (i ≤ count
-    → (cyclesIn (rowsOf i freshCore memory) ≤ 1000) × (instructionsOf (before .answer) ≡ i) × (before .core .due ≡ 1))
+    → (cyclesIn (rowsOf i freshCore memory) ≤ 1000) × (instructionsOf (before .answer) ≡ i) × (dueOne (before .core) ≡ true))
     × (i < count
     → rowsOf (i + 1) freshCore memory
     ≡ rowsOf i freshCore memory
     ++ (before .core .pc
     ∷ wordAt (before .memory) (before .core .pc)
-    ∷ costAt (before .memory) (visibleOf (before .core))
+    ∷ takes (before .memory) (visibleOf (before .core))
     ∷ flagsNumber (after .core .flags)
     ∷ []))
 
--- the cycles of all rows and those spent in an unfinished instruction, one fewer than the cycle due, are the cycles of the run (proved
--- as `cycles-add-up`)
+-- the cycles of all rows and those spent in an unfinished instruction are the cycles of the run (proved as `cycles-add-up`)
 abbrev pub CyclesAddUp : Type 0
 CyclesAddUp =
     (memory : List ℕ) → length memory ≡ 16384
     → let whole : Reply = run 1000 freshCore memory in
-    cyclesIn (rowsOf (instructionsOf (whole .answer)) freshCore memory) + whole .core .due ≡ cyclesOf (whole .answer) + 1
+    (dueInRange (whole .core) ≡ true)
+    × (cyclesIn (rowsOf (instructionsOf (whole .answer)) freshCore memory) + spentOf (whole .core) ≡ cyclesOf (whole .answer))
 
 -- an instruction has 2 cycles or more, so 1,000 cycles finish at most 500: 2,000 numbers have room for every trace (proved as
 -- `room-always`)

@@ -13,7 +13,7 @@ returns-3 : tie.Need-returns-3
 returns-3 c = rw (c .before .before .before .before .kind2 .given .1) (rw (c .before .constant .ensures, c .before .before .field-k .ensures) at (c .arithmetic2 .ensures))
 
 returns-4 : tie.Need-returns-4
-returns-4 c = rw (c .before .before .before .enum-told2 .given .1) (rw (c .before .to-rt .ensures, c .before .before .read .ensures, c .before .before .before .before .before .add2 .ensures) at (c .with-ralu2 .ensures))
+returns-4 c = rw (c .before .before .before .enum-told2 .given .1) (rw (c .before .load .ensures, c .before .before .read .ensures, c .before .before .before .before .before .add2 .ensures) at (c .with-ralu2 .ensures))
 
 returns-5 : tie.Need-returns-5
 returns-5 c = rw (c .before .before .enum-told3 .given .1) (rw (c .before .with-store .ensures, c .before .before .before .before .add2 .ensures) at (c .with-ralu3 .ensures))
@@ -34,7 +34,7 @@ returns-10 : tie.Need-returns-10
 returns-10 c = rw (c .before .before .before .before .enum-told7 .given .1) (rw (c .before .to-pc .ensures, c .before .before .read2 .ensures, c .before .before .before .to-sp2 .ensures, c .before .before .before .before .before .before .before .add .ensures) at (c .with-ralu7 .ensures))
 
 returns-11 : tie.Need-returns-11
-returns-11 c = rw (c .before .before .before .before .enum-told8 .given .1) (rw (c .before .to-rt2 .ensures, c .before .before .read3 .ensures, c .before .before .before .to-sp3 .ensures, c .before .before .before .before .before .before .before .add .ensures) at (c .with-ralu8 .ensures))
+returns-11 c = rw (c .before .before .before .before .enum-told8 .given .1) (rw (c .before .to-rt .ensures, c .before .before .read3 .ensures, c .before .before .before .to-sp3 .ensures, c .before .before .before .before .before .before .before .add .ensures) at (c .with-ralu8 .ensures))
 
 returns-12 : tie.Need-returns-12
 returns-12 c = rw (c .before .before .enum-told9 .given .1) (rw (c .before .push .ensures) at (c .with-ralu9 .ensures))

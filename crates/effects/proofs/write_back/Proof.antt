@@ -13,13 +13,13 @@ returns-3 : tie.Need-returns-3
 returns-3 c = rw (c .before .enum-told3 .given .1) (c .to-rt2 .ensures)
 
 returns-4 : tie.Need-returns-4
-returns-4 c = rw (c .before .before .enum-told4 .given .1) (rw (c .before .read .ensures) at (c .to-rt3 .ensures))
+returns-4 c = rw (c .before .before .enum-told4 .given .1) (rw (c .before .read .ensures) at (c .load .ensures))
 
 returns-5 : tie.Need-returns-5
 returns-5 c = rw (c .before .enum-told5 .given .1) (c .with-store .ensures)
 
 returns-6 : tie.Need-returns-6
-returns-6 c = rw (c .before .enum-told6 .given .1) (c .to-rt4 .ensures)
+returns-6 c = rw (c .before .enum-told6 .given .1) (c .to-rt3 .ensures)
 
 returns-7 : tie.Need-returns-7
 returns-7 c = rw (c .enum-told7 .given .1)
@@ -34,7 +34,7 @@ returns-10 : tie.Need-returns-10
 returns-10 c = rw (c .before .before .before .enum-told10 .given .1) (rw (c .before .read2 .ensures, c .before .before .to-sp2 .ensures) at (c .to-pc .ensures))
 
 returns-11 : tie.Need-returns-11
-returns-11 c = rw (c .before .before .before .enum-told11 .given .1) (rw (c .before .read3 .ensures, c .before .before .to-sp3 .ensures) at (c .to-rt5 .ensures))
+returns-11 c = rw (c .before .before .before .enum-told11 .given .1) (rw (c .before .read3 .ensures, c .before .before .to-sp3 .ensures) at (c .to-rt4 .ensures))
 
 returns-12 : tie.Need-returns-12
 returns-12 c = rw (c .before .enum-told12 .given .1) (c .push .ensures)

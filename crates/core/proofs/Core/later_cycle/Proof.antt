@@ -47,26 +47,30 @@ turn-requires-3 : tie.Need-turn-requires-3
 turn-requires-3 c κs =
     let clock = ap (λ (core : Core). core .clock .0) (c .with-effect .ensures) in
     let due = ap (λ (core : Core). core .due) (c .with-effect .ensures) in
-    (omega (arith, c .before .before .before .before .before .before .before .before .pre), omega (arith, c .before .before .before .if3 .taken))
+    let three = c .before .before .before .before in
+    (omega (arith, three .before .before .before .before .before .pre), omega (arith, three .if3 .taken))
 
 returns-3 : tie.Need-returns-3
 returns-3 c =
-    let before = c .before .before .before .before .before .before .before .before .before .args in
-    let last = c .before .before .before .before .before .before .before .is-last .ensures in
+    let three = c .before .before .before .before .before in
+    let before = three .before .before .before .before .before .args in
+    let last = three .before .before .before .is-last .ensures in
     let self = before .self in
     let effect =
     c .before .before .write-back .ensures
-    ∙ ap (writtenBack (before .kind) (self .rb) (self .ralu) (before .memory .now)) (c .before .before .before .reach .ensures) in
+    ∙ ap (writtenBack (before .kind) (self .hidden) (before .memory .now)) (c .before .before .before .reach .ensures) in
     let core = c .before .with-effect .ensures in
     c .turn3 .ensures
     ∙ (λ j. turn (last j) (core j) (c .before .before .write-back .result .store))
     ∙ ap (λ (effect : Effect). turn (isLast (before .kind) self) (withEffect effect self) (effect .store)) effect
-    ∙ sym (fourth-cycle (before .memory .now) self (before .kind) (c .before .before .before .before .if3 .taken))
+    ∙ sym (fourth-cycle (before .memory .now) self (before .kind) (three .if3 .taken))
 
 returns-4 : tie.Need-returns-4
 returns-4 c =
-    let before = c .before .before .before .before .before .args in
-    sym (no-cycle-due (before .memory .now) (before .self) (before .kind) (c .before .before .if1 .left) (c .before .if2 .left) (c .if3 .left))
+    let three = c .before in
+    let before = three .before .before .before .before .before .args in
+    c .idle .ensures
+    ∙ sym (no-cycle-due (before .memory .now) (before .self) (before .kind) (three .before .before .if1 .left) (three .before .if2 .left) (three .if3 .left))
 
 pub later-cycle-spec : {M : Type 1} → statement M
 later-cycle-spec =
@@ -81,4 +85,5 @@ later-cycle-spec =
     (λ c κs. search needs) (λ c κs. search needs) (λ c κs. search needs)
     turn-requires-3
     returns-3
+    (λ c κs. search needs)
     returns-4)

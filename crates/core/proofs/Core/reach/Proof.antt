@@ -9,7 +9,7 @@ use Rattle.core.proofs.Core.reach.Tie as tie
 returns : tie.Need-returns
 returns c =
     let self = c .before .before .before .before .before .args .self in
-    let rt : c .register-of .result ≡ register (self .regs) (fieldT (self .ir)) =
+    let rt : c .register-of .result ≡ register (self .regs) (fieldT (self .hidden .ir)) =
     c .register-of .ensures ∙ ap (register (self .regs)) (c .before .field-t .ensures) in
     rw rt
 

@@ -1,16 +1,17 @@
 -- `core::Core::run` meets its contract: what is left of the cycles, from the core and memory reached, gives what all give. Assumes nothing.
 use mathlib.Core.Path.{_≡_, refl, sym, ap, _∙_}
-use mathlib.Core.Bool.{Bool, not}
+use mathlib.Core.Bool.{Bool, true, not}
 use borrow.Author.Needs.{needs}
 use native.Mathlib.Omega.{arith}
 use mathlib.Core.List.{List}
-use Prim.Native.Nat.{ℕ, _+_, _-_, _≤_, _<_}
+use Prim.Native.Nat.{ℕ, _+_, _-_, _≤_}
 use lib.ListN.{length}
+use Rattle.core.specs.Spent.{dueInRange}
 use Rattle.core.specs.Numbers.{runNumber}
 use Rattle.core.specs.Calls.{Reply, Progress, cyclesOn, ranReply, run}
 use Rattle.core.specs.Answers.{verdictNumber}
 use Rattle.core.specs.declared.Core.{Core}
-use Rattle.core.proofs.Refusals.{not-false, not-true, ready, due-when}
+use Rattle.core.proofs.Refusals.{not-false, not-true, ready}
 use Rattle.core.proofs.Cycles.{none-more}
 use Rattle.core.proofs.Replies.{refused-reply, run-starts, run-over}
 use Rattle.core.proofs.AtOnce.{onward}
@@ -24,8 +25,7 @@ record Reached (reply : Reply) (before : List ℕ) (b : ℕ) (p : Progress) : Ty
   few : p .finished ≤ p .used
   within : p .used ≤ b
   room : p .core .clock .0 + (b - p .used) ≤ 4294967295
-  low : 1 ≤ p .core .due
-  high : p .core .due ≤ 4
+  due : dueInRange (p .core) ≡ true
 
 abbrev progress : Core → List ℕ → ℕ → ℕ → Progress
 progress core memory used finished = record { core = core; memory = memory; used = used; finished = finished }
@@ -57,15 +57,13 @@ loop-holds c =
     let number = verdict .run-verdict .ensures ∙ ap at (verdict .before .due-in-range .ensures) in
     let none = sym number ∙ ap verdictNumber (c .enum-told .given .1) in
     let ready = ready _ _ _ _ _ none in
-    let due = due-when (a .self) (ready .due) in
     record {
       left = run-starts (a .b) (a .self) (a .memory .now) none;
       size = refl;
       few = omega arith;
       within = omega arith;
       room = omega (arith, ready .room);
-      low = due .0;
-      high = due .1;
+      due = ready .due;
     }
 
 same-length : tie.Need-same-length Inv-loop μ-loop
@@ -95,7 +93,7 @@ add-used c =
     let below = test .before .if1 .taken in
     let going = not-false _ (ap not (sym (test .is-going .ensures)) ∙ n .before .before .before .if2 .left) in
     let p = progress (l .self) (l .memory) (l .used .0) (l .finished .0) in
-    let on = onward _ p _ going below (l .inv .low) (l .inv .high) (n .advance .ensures) in
+    let on = onward _ p _ going below (l .inv .due) (n .advance .ensures) in
     omega (arith, below, on .most, test .before .before .before .before .before .before .before .before .before .before .fits .b)
 
 add-finished : tie.Need-add-finished Inv-loop μ-loop
@@ -106,7 +104,7 @@ add-finished c =
     let below = test .before .if1 .taken in
     let going = not-false _ (ap not (sym (test .is-going .ensures)) ∙ n .before .before .before .if2 .left) in
     let p = progress (l .self) (l .memory) (l .used .0) (l .finished .0) in
-    let on = onward _ p _ going below (l .inv .low) (l .inv .high) (n .advance .ensures) in
+    let on = onward _ p _ going below (l .inv .due) (n .advance .ensures) in
     omega (arith, below, on .most, on .few, l .inv .few, test .before .before .before .before .before .before .before .before .before .before .fits .b)
 
 loop-less : tie.Need-loop-less Inv-loop μ-loop
@@ -117,7 +115,7 @@ loop-less c =
     let below = test .before .if1 .taken in
     let going = not-false _ (ap not (sym (test .is-going .ensures)) ∙ n .before .before .before .if2 .left) in
     let p = progress (l .self) (l .memory) (l .used .0) (l .finished .0) in
-    let on = onward _ p _ going below (l .inv .low) (l .inv .high) (n .advance .ensures) in
+    let on = onward _ p _ going below (l .inv .due) (n .advance .ensures) in
     omega (arith, below, on .some)
 
 loop-again : tie.Need-loop-again Inv-loop μ-loop
@@ -128,15 +126,14 @@ loop-again c =
     let below = test .before .if1 .taken in
     let going = not-false _ (ap not (sym (test .is-going .ensures)) ∙ n .before .before .before .if2 .left) in
     let p = progress (l .self) (l .memory) (l .used .0) (l .finished .0) in
-    let on = onward _ p _ going below (l .inv .low) (l .inv .high) (n .advance .ensures) in
+    let on = onward _ p _ going below (l .inv .due) (n .advance .ensures) in
     record {
       left = l .inv .left ∙ ap ranReply (on .left);
       size = on .size ∙ l .inv .size;
       few = omega (arith, on .few, l .inv .few);
       within = omega (arith, below, on .most);
       room = omega (arith, below, on .most, on .clock, l .inv .room);
-      low = on .low;
-      high = on .high;
+      due = on .due;
     }
 
 same-length-2 : tie.Need-same-length-2 Inv-loop μ-loop

@@ -24,7 +24,7 @@ banked c = c .before .before .words .last .1 .0
 abbrev six : tie.After-slice-known2 → List ℕ
 six c =
     let core = c .before .before .before .before .before .before .before .args .core in
-    core .pc ∷ core .sp ∷ core .ir ∷ core .ra ∷ core .rb ∷ core .ralu ∷ []
+    core .pc ∷ core .sp ∷ core .hidden .ir ∷ core .hidden .ra ∷ core .hidden .rb ∷ core .hidden .ralu ∷ []
 
 -- no store changes the slice's size
 within : (c : tie.After-slice-known2) (n k : ℕ) → k < 22 → k < length (sets (banked c) 16 (take n (six c)))
