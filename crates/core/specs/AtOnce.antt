@@ -25,11 +25,12 @@ use Rattle.core.specs.declared.Core.{Core}
 use Rattle.core.specs.declared.State.{State}
 use Rattle.core.specs.declared.Advance.{Advance}
 
--- a core without its bank; what an instruction sees of the two; and the core of the two, with all else as it is in `core`
+-- the state that whole instructions go by, of its parts: no other definition writes it out
 abbrev pub stateOf : ℕ → ℕ → Flags → Hidden → Stop → ℕ → State
 stateOf pc sp flags hidden stop clock =
     record { pc = pc; sp = sp; flags = flags; hidden = hidden; stop = stop; clock = record { 0 = clock } }
 
+-- a core without its bank; what an instruction sees of the two; and the core of the two, with all else as it is in `core`
 abbrev pub restOf : Core → State
 restOf core = stateOf (core .pc) (core .sp) (core .flags) (core .hidden) (core .stop) (core .clock .0)
 
