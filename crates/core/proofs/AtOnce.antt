@@ -165,18 +165,18 @@ module _ (b : ℕ) (core : Core) (M : List ℕ) (going : isGoing (core .stop) �
       }
 
   turned : Turned b (starting core M) (ahead b (starting core M))
-  turned = by-due (dueOne core) refl
+  turned = by-room (leb longest b) refl
     where
-      by-room : (fits : Bool) → leb longest b ≡ fits → dueOne core ≡ true
-          → Turned b (starting core M) (cond fits (instructionsOn b b (starting core M)) (advanced (starting core M)))
-      by-room false f d = one-cycle
-      by-room true f d = whole d (leb-true longest b f)
+      by-due : (one : Bool) → dueOne core ≡ one → leb longest b ≡ true
+          → Turned b (starting core M) (cond one (instructionsOn b b (starting core M)) (advanced (starting core M)))
+      by-due false d f = one-cycle
+      by-due true d f = whole d (leb-true longest b f)
 
-      by-due : (one : Bool) → dueOne core ≡ one
+      by-room : (fits : Bool) → leb longest b ≡ fits
           → Turned b (starting core M)
-          (cond one (cond (leb longest b) (instructionsOn b b (starting core M)) (advanced (starting core M))) (advanced (starting core M)))
-      by-due false o = one-cycle
-      by-due true o = by-room (leb longest b) refl o
+          (cond fits (cond (dueOne core) (instructionsOn b b (starting core M)) (advanced (starting core M))) (advanced (starting core M)))
+      by-room false f = one-cycle
+      by-room true f = by-due (dueOne core) refl f
 
 -- a turn of the loop leaves what the cycles left give, counts and all
 cycles-left : (b : ℕ) (p q : Progress) → Turned (b - p .used) (starting (p .core) (p .memory)) q

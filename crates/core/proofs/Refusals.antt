@@ -6,7 +6,7 @@ use mathlib.Core.Bool.{Bool, true, false, not, cond}
 use mathlib.Core.List.{List, [], _∷_}
 use Prim.Native.Nat.{ℕ, suc, zero, _+_, _≤_, _<_}
 use native.Mathlib.Omega.{arith}
-use borrow.Author.Tests.{ltb-true, ltb-false, leb-true, leb-false, eqb-true, eqb-false, lt-ltb}
+use borrow.Author.Tests.{ltb-true, ltb-false, leb-true, leb-false, eqb-true, eqb-false, lt-ltb, not-true, not-false}
 use lib.Dec.{eqb, ltb, leb}
 use lib.ListN.{length}
 use Rattle.listing.specs.Answers as listing
@@ -74,14 +74,6 @@ pub none-applies : (n : ℕ) (applies : Bool) (rest : List (ℕ × Bool)) → fi
 unfolding firstNumber
 none-applies n true rest e = absurd (omega arith)
 none-applies n false rest e = (refl, e)
-
-pub not-false : (b : Bool) → not b ≡ false → b ≡ true
-not-false true e = refl
-not-false false e = absurd (clash refl e)
-
-pub not-true : (b : Bool) → not b ≡ true → b ≡ false
-not-true true e = absurd (clash e refl)
-not-true false e = refl
 
 -- a run that no number refuses, or a step with 4 for b
 pub record Ready (L : ℕ) (stop : Stop) (dueRight : Bool) (clock b : ℕ) : Type 0 where

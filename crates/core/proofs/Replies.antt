@@ -2,6 +2,7 @@
 use mathlib.Core.Path.{_≡_, refl, sym, ap, _∙_}
 use mathlib.Core.Bool.{Bool, true, false, cond, not}
 use mathlib.Core.List.{List, [], _∷_}
+use borrow.Author.Tests.{not-false}
 use Prim.Native.Nat.{ℕ, _-_, _≤_}
 use native.Mathlib.Omega.{arith}
 use lib.Dec.{lit≤}
@@ -20,7 +21,7 @@ use Rattle.core.specs.declared.Core.{Core}
 use Rattle.core.specs.declared.Refusal.{Refusal}
 use Rattle.core.specs.declared.Refusal.the-variants.{WrongLength, WrongCycle, Stopped, ClockFull}
 use Rattle.core.proofs.Cycles.{no-cycle}
-use Rattle.core.proofs.Refusals.{none-applies, not-false}
+use Rattle.core.proofs.Refusals.{none-applies}
 use Rattle.core.proofs.Taken.{reply-own}
 
 -- the first test of some that holds, the first that does not, and none

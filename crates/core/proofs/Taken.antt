@@ -6,7 +6,7 @@ use mathlib.Core.List.{List, []}
 use Prim.Native.Nat.{ℕ, _+_, _≤_, _<_}
 use native.Mathlib.Omega.{arith}
 use native.Mathlib.Nat.{zero-add, add-zero}
-use borrow.Author.Tests.{eq-eqb, le-ltb}
+use borrow.Author.Tests.{eq-eqb, le-ltb, not-false}
 use lib.ListN.{length}
 use Rattle.effects.specs.declared.Stop.the-variants.{Going}
 use Rattle.effects.specs.Hidden.{noHidden}
@@ -23,7 +23,7 @@ use Rattle.core.specs.declared.Turn.{Turn}
 use Rattle.core.proofs.Spent.{due-when-one, range-when-one}
 use Rattle.core.proofs.Cycles.{later, no-cycle-due, within-clock, full-clock, one-more, no-cycle, only-going, cost-range}
 use Rattle.core.proofs.OneInstruction.{one-instruction, one-finished}
-use Rattle.core.proofs.Refusals.{none-found, none-applies, not-false, Ready, ready, load-found, run-found, step-found, view-found}
+use Rattle.core.proofs.Refusals.{none-found, none-applies, Ready, ready, load-found, run-found, step-found, view-found}
 use Rattle.core.proofs.Endings.{letter, budget, clock-moves}
 
 pub reply-own : (number : ℕ) (core : Core) (memory : List ℕ) (reply : Reply) → number ≡ 0 → unless number core memory reply ≡ reply

@@ -87,7 +87,7 @@ instructionsOn (suc n) b p = cond (goesOn (p .core .stop) (b - p .used)) (instru
 
 -- a turn of run's loop with b cycles left, from a p that has used none
 abbrev pub ahead : ℕ → Progress → Progress
-ahead b p = cond (dueOne (p .core)) (cond (leb longest b) (instructionsOn b b p) (advanced p)) (advanced p)
+ahead b p = cond (leb longest b) (cond (dueOne (p .core)) (instructionsOn b b p) (advanced p)) (advanced p)
 
 -- how far code has come, with the memory as it then is
 abbrev pub reached : Advance → List ℕ → Progress

@@ -12,7 +12,7 @@ ghost use Rattle.effects.specs.Hidden.{noHidden};
 ghost use Rattle.effects.specs.Cycles.{stopOf};
 ghost use Rattle.core.specs.State.{freshCore, withHidden, stopped, visibleOf, register, reach};
 ghost use Rattle.core.specs.Spent.{dueInRange, dueOne};
-ghost use Rattle.core.specs.Datapath.{fetched, latched, second, withResult, third, withEffect, dueAfter, ticked, turn, idle, isLast, laterCycle, oneCycle};
+ghost use Rattle.core.specs.Datapath.{fetched, latched, second, withResult, third, withEffect, dueAfter, ticked, turn, idle, isLast, laterCycle, cycled, oneCycle};
 ghost use Rattle.core.specs.Instruction.{memoryAfter};
 ghost use Rattle.core.specs.AtOnce.{restOf, seen, joined, beforeOf, executedOf, stateAfter, stateOn, bankOn, goesOn, instructionsOn, ahead, reached};
 ghost use Rattle.core.specs.Numbers.{wrongLength, isGoing, longest, clockFull, viewNumber, loadNumber, runNumber};
@@ -576,6 +576,14 @@ impl Core {
         if 4294967295 <= self.clock.0 {
             return self.idle();
         }
+        self.due_cycle(memory)
+    }
+
+    // The cycle due, where the clock has room for it.
+    fn due_cycle(self, memory: &[u16]) -> Turn
+        requires { ⌜ self .clock .0 < 4294967295 ⌝ }
+        ensures { λ r. ⌜ r ≡ cycled (now (memory .entry)) self ⌝ }
+    {
         if self.due == 1 {
             return self.fetch(memory).turn(false, Store::Nothing);
         }
@@ -587,7 +595,7 @@ impl Core {
         requires { ⌜ self .clock .0 < 4294967295 ⌝ }
         ensures { λ r. ⌜ reached r (now (memory .exit)) ≡ advanced (starting self (now (memory .entry))) ⌝ }
     {
-        let turn = self.cycle(memory);
+        let turn = self.due_cycle(memory);
         let store = turn.store;
         let core = turn.core;
         apply(store, memory);
@@ -659,8 +667,8 @@ impl Core {
         requires { ⌜ (1 ≤ b) × (self .clock .0 + b ≤ 4294967295) ⌝ }
         ensures { λ r. ⌜ reached r (now (memory .exit)) ≡ ahead b (starting self (now (memory .entry))) ⌝ }
     {
-        if self.one_due() {
-            if LONGEST <= b {
+        if LONGEST <= b {
+            if self.one_due() {
                 // A copy for this call: single cycles take longer where run's own core is lent to it.
                 let whole = self;
                 return whole.instructions(b, b, memory);
@@ -676,6 +684,13 @@ impl Core {
         let hidden = no_hidden();
         self.hidden = hidden;
         self
+    }
+
+    fn goes(self) -> bool
+        ensures { λ r. ⌜ r ≡ isGoing (self .stop) ⌝ }
+    {
+        let stop = self.stop;
+        is_going(stop)
     }
 
     fn one_due(self) -> bool
@@ -786,11 +801,7 @@ impl Core {
         }
         let mut used = Cycles(0);
         let mut finished = Instructions(0);
-        while used.0 < b {
-            let stop = self.stop;
-            if !is_going(stop) {
-                return self.ran(used, finished);
-            }
+        while used.0 < b && self.goes() {
             let more = self.advance(b - used.0, memory);
             used.0 += more.cycles.0;
             finished.0 += more.instructions.0;
@@ -813,8 +824,8 @@ impl Core {
         let one = self.instructions(1, LONGEST, memory);
         let used = one.cycles;
         let next = one.core;
-        self = next.without_hidden();
-        self.ran(used, Instructions(1))
+        self = next;
+        self.without_hidden().ran(used, Instructions(1))
     }
 
     // All but the hidden registers; where it is refused, the snapshot is that of a fresh core.

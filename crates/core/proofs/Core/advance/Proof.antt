@@ -1,4 +1,4 @@
--- `core::Core::advance` meets its contract: by the cycle due and the room for an instruction. Assumes nothing.
+-- `core::Core::advance` meets its contract: by the room for an instruction and the cycle due. Assumes nothing.
 use mathlib.Core.Path.{sym, _∙_}
 use mathlib.Core.Logic.{⊎-elim}
 use borrow.Author.Tests.{le-leb, lt-leb}
@@ -9,23 +9,21 @@ use Rattle.core.proofs.Core.advance.Tie as tie
 instructions-requires : tie.Need-instructions-requires
 instructions-requires c κs =
     let test = c .before .before in
-    (sym (test .before .one-due .ensures) ∙ test .if1 .taken, test .before .before .before .pre .1)
+    (sym (test .one-due .ensures) ∙ c .before .if2 .taken, test .before .before .before .pre .1)
 
 returns : tie.Need-returns
 returns c =
     let t = c .before .before .before .before in
-    let one = sym (t .before .before .one-due .ensures) ∙ t .before .if1 .taken in
-    c .before .before .instructions .ensures ∙ sym (rw (one, le-leb 4 _ (t .if2 .taken)))
+    let one = sym (t .before .one-due .ensures) ∙ t .if2 .taken in
+    c .before .before .instructions .ensures ∙ sym (rw (one, le-leb 4 _ (t .before .before .if1 .taken)))
 
 returns-2 : tie.Need-returns-2
 returns-2 c =
-    let t = c .before .before .before .before in
-    let one = sym (t .before .one-due .ensures) in
     c .before .before .one-cycle .ensures
     ∙ ⊎-elim
-    (λ w. sym (rw (one ∙ w .0 .taken, lt-leb 4 _ (w .1 .left))))
-    (λ w. sym (rw (one ∙ w .left)))
-    (t .if1 .came)
+    (λ w. sym (rw (le-leb 4 _ (w .0 .taken), sym (w .1 .ensures) ∙ w .2 .left)))
+    (λ w. sym (rw (lt-leb 4 _ (w .left))))
+    (c .before .before .before .before .if1 .came)
 
 pub advance-spec : {M : Type 1} → statement M
 advance-spec =

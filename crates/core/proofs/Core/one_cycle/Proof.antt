@@ -5,7 +5,6 @@ use Rattle.words.specs.Arithmetic.{bit}
 use Rattle.effects.specs.Effect.{applied}
 use Rattle.core.specs.Calls.{advanced}
 use Rattle.core.specs.declared.Turn.{Turn}
-use Rattle.core.proofs.Cycles.{within-clock}
 use borrow.Author.Needs.{needs}
 use Rattle.core.proofs.Core.one_cycle.Statement.{statement}
 use Rattle.core.proofs.Core.one_cycle.Tie as tie
@@ -16,7 +15,7 @@ returns c =
     let l = c .before .before .before in
     let start = l .before .before .before .before .before .before in
     let M = start .args .memory .now in
-    let turn = l .before .before .before .cycle .ensures ∙ within-clock M (start .args .self) (start .pre) in
+    let turn = l .before .before .before .due-cycle .ensures in
     let memory = l .apply .ensures ∙ ap (λ (t : Turn). applied (t .store) M) turn in
     let finished = c .count-of .ensures ∙ ap (λ (t : Turn). bit (t .finished)) turn ∙ sym (zero-add _) in
     λ j. record { core = turn j .core; memory = memory j; used = 1; finished = finished j }

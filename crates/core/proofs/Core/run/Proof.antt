@@ -1,6 +1,7 @@
 -- `core::Core::run` meets its contract: what is left of the cycles, from the core and memory reached, gives what all give. Assumes nothing.
 use mathlib.Core.Path.{_≡_, refl, sym, ap, _∙_}
-use mathlib.Core.Bool.{Bool, true, not}
+use mathlib.Core.Bool.{Bool, true}
+use mathlib.Core.Logic.{⊎-elim}
 use borrow.Author.Needs.{needs}
 use native.Mathlib.Omega.{arith}
 use mathlib.Core.List.{List}
@@ -11,7 +12,7 @@ use Rattle.core.specs.Numbers.{runNumber}
 use Rattle.core.specs.Calls.{Reply, Progress, cyclesOn, ranReply, run}
 use Rattle.core.specs.Answers.{verdictNumber}
 use Rattle.core.specs.declared.Core.{Core}
-use Rattle.core.proofs.Refusals.{not-false, not-true, ready}
+use Rattle.core.proofs.Refusals.{ready}
 use Rattle.core.proofs.Cycles.{none-more}
 use Rattle.core.proofs.Replies.{refused-reply, run-starts, run-over}
 use Rattle.core.proofs.AtOnce.{onward}
@@ -66,17 +67,6 @@ loop-holds c =
       due = ready .due;
     }
 
-same-length : tie.Need-same-length Inv-loop μ-loop
-same-length c = c .before .before .before .before .before .loop .inv .size
-
-returns-2 : tie.Need-returns-2 Inv-loop μ-loop
-returns-2 c =
-    let l = c .before .before .before .before .before .loop in
-    let going = ap not (sym (c .before .before .is-going .ensures)) ∙ c .before .if2 .taken in
-    let stopped = none-more _ (progress (l .self) (l .memory) (l .used .0) (l .finished .0)) (not-true _ going) in
-    let ended = c .ran .ensures in
-    (λ j. record { answer = ended .1 j; core = ended .0 j; memory = l .memory }) ∙ sym (l .inv .left ∙ ap ranReply stopped)
-
 sub-advance : tie.Need-sub-advance Inv-loop μ-loop
 sub-advance c = omega (arith, c .before .before .before .if1 .taken)
 
@@ -91,7 +81,7 @@ add-used c =
     let test = n .before .before .before .before in
     let l = test .before .before .before .loop in
     let below = test .before .if1 .taken in
-    let going = not-false _ (ap not (sym (test .is-going .ensures)) ∙ n .before .before .before .if2 .left) in
+    let going = sym (test .goes .ensures) ∙ n .before .before .before .if2 .taken in
     let p = progress (l .self) (l .memory) (l .used .0) (l .finished .0) in
     let on = onward _ p _ going below (l .inv .due) (n .advance .ensures) in
     omega (arith, below, on .most, test .before .before .before .before .before .before .before .before .before .before .fits .b)
@@ -102,7 +92,7 @@ add-finished c =
     let test = n .before .before .before .before in
     let l = test .before .before .before .loop in
     let below = test .before .if1 .taken in
-    let going = not-false _ (ap not (sym (test .is-going .ensures)) ∙ n .before .before .before .if2 .left) in
+    let going = sym (test .goes .ensures) ∙ n .before .before .before .if2 .taken in
     let p = progress (l .self) (l .memory) (l .used .0) (l .finished .0) in
     let on = onward _ p _ going below (l .inv .due) (n .advance .ensures) in
     omega (arith, below, on .most, on .few, l .inv .few, test .before .before .before .before .before .before .before .before .before .before .fits .b)
@@ -113,7 +103,7 @@ loop-less c =
     let test = n .before .before .before .before in
     let l = test .before .before .before .loop in
     let below = test .before .if1 .taken in
-    let going = not-false _ (ap not (sym (test .is-going .ensures)) ∙ n .before .before .before .if2 .left) in
+    let going = sym (test .goes .ensures) ∙ n .before .before .before .if2 .taken in
     let p = progress (l .self) (l .memory) (l .used .0) (l .finished .0) in
     let on = onward _ p _ going below (l .inv .due) (n .advance .ensures) in
     omega (arith, below, on .some)
@@ -124,7 +114,7 @@ loop-again c =
     let test = n .before .before .before .before in
     let l = test .before .before .before .loop in
     let below = test .before .if1 .taken in
-    let going = not-false _ (ap not (sym (test .is-going .ensures)) ∙ n .before .before .before .if2 .left) in
+    let going = sym (test .goes .ensures) ∙ n .before .before .before .if2 .taken in
     let p = progress (l .self) (l .memory) (l .used .0) (l .finished .0) in
     let on = onward _ p _ going below (l .inv .due) (n .advance .ensures) in
     record {
@@ -136,14 +126,19 @@ loop-again c =
       due = on .due;
     }
 
-same-length-2 : tie.Need-same-length-2 Inv-loop μ-loop
-same-length-2 c = c .before .before .before .loop .inv .size
+same-length : tie.Need-same-length Inv-loop μ-loop
+same-length c = c .before .before .before .loop .inv .size
 
-returns-3 : tie.Need-returns-3 Inv-loop μ-loop
-returns-3 c =
+returns-2 : tie.Need-returns-2 Inv-loop μ-loop
+returns-2 c =
     let l = c .before .before .before .loop in
-    let over = run-over _ (progress (l .self) (l .memory) (l .used .0) (l .finished .0)) (c .before .if1 .left) in
-    let ended = c .ran2 .ensures in
+    let p = progress (l .self) (l .memory) (l .used .0) (l .finished .0) in
+    let over =
+    ⊎-elim
+    (λ w. none-more _ p (sym (w .1 .ensures) ∙ w .2 .left))
+    (λ w. run-over _ p (w .left))
+    (c .before .if1 .came) in
+    let ended = c .ran .ensures in
     (λ j. record { answer = ended .1 j; core = ended .0 j; memory = l .memory }) ∙ sym (l .inv .left ∙ ap ranReply over)
 
 pub run-spec : {M : Type 1} → statement M
@@ -156,9 +151,7 @@ run-spec =
     returns
     (λ c. search needs)
     loop-holds
-    (λ c κs. search needs) (λ c κs. search needs)
-    same-length
-    returns-2
+    (λ c κs. search needs)
     sub-advance
     advance-requires
     add-used
@@ -166,5 +159,5 @@ run-spec =
     loop-less
     loop-again
     (λ c κs. search needs)
-    same-length-2
-    returns-3)
+    same-length
+    returns-2)
