@@ -2,12 +2,13 @@
 -- cycles.
 use mathlib.Core.Path.{_≡_, refl, sym, ap, subst, _∙_}
 use mathlib.Core.Bool.{Bool, true, false, cond}
+use mathlib.Core.Logic.{_⊎_, inl, inr, ⊎-elim}
 use mathlib.Core.List.{List}
 use Prim.Native.Nat.{ℕ, zero, suc, _+_, _-_, _≤_, _<_}
 use native.Mathlib.Omega.{arith}
 use native.Mathlib.Nat.{add-zero, zero-add}
-use borrow.Author.Tests.{leb-true, le-leb}
-use lib.Dec.{leb}
+use borrow.Author.Tests.{ltb-true, ltb-false, leb-true, le-leb}
+use lib.Dec.{ltb, leb}
 use lib.ListN.{length, length-set}
 use Rattle.isa.specs.Fields.{fieldT, fieldA, fieldB}
 use Rattle.table.specs.Table.{kindOf}
@@ -15,7 +16,7 @@ use Rattle.effects.specs.Hidden.{noHidden, withIr, withRaRb}
 use Rattle.effects.specs.Cycles.{calculated, leaving}
 use Rattle.effects.proofs.Theorems.{second-of}
 use Rattle.effects.specs.declared.Stop.{Stop}
-use Rattle.core.specs.State.{withHidden, withDue, Visible, visibleOf, register}
+use Rattle.core.specs.State.{withHidden, withDue, withClock, Visible, visibleOf, register}
 use Rattle.core.specs.Spent.{dueInRange, dueOne}
 use Rattle.core.specs.Instruction.{wordDue, effectOf, after, memoryAfter, takes, coreAfter, instructed}
 use Rattle.core.specs.Datapath.{cycled}
@@ -32,54 +33,65 @@ use Rattle.core.proofs.Replies.{bit-small, applied-length}
 use Rattle.core.proofs.Again.{due-stays, length-stays}
 
 -- the instruction engine on the two parts of a core, with all else as it is in a core with cycle 1 due
-pub core-after : (core : Core) → dueOne core ≡ true → (M regs : List ℕ) (s : State)
-    → joined core (stateOn M regs s) (bankOn M regs s) ≡ coreAfter M (joined core s regs)
+core-after : (core : Core) → dueOne core ≡ true → (M regs : List ℕ) (s : State) (used : ℕ)
+    → joined core (stateOn M regs s) (bankOn M regs s) (used + takes M (seen s regs)) ≡ coreAfter M (joined core s regs used)
 unfolding coreAfter after
-core-after core one M regs s =
+core-after core one M regs s used =
     let w = wordDue M (seen s regs) in
     let done = doneOn M regs s in
     let due = due-when-one core one in
     let second = second-of (kindOf w) (fieldT w) (fieldB w) (register regs) in
     let x = beforeOf s (register regs (fieldT w)) in
     let ralu = ap (λ (RB : ℕ). calculated (kindOf w) (withRaRb (register regs (fieldA w)) RB (withIr w (s .hidden))) x .value) second in
-    λ j. withDue (due j)
-    (joined core (stateAfter (kindOf w) w regs (leaving (ralu j) (done .effect)) (takes M (seen s regs)) s) (bankOn M regs s))
+    let clock : core .clock .0 + (used + takes M (seen s regs)) ≡ core .clock .0 + used + takes M (seen s regs) = omega arith in
+    λ j. withClock (clock j)
+    (withDue (due j)
+    (joined core (stateAfter (kindOf w) w regs (leaving (ralu j) (done .effect)) (takes M (seen s regs)) s) (bankOn M regs s) used))
 
--- it moves the clock by its cost, and leaves the lengths of bank and memory
-pub clock-after : (M : List ℕ) (core : Core) → coreAfter M core .clock .0 ≡ core .clock .0 + takes M (visibleOf core)
-unfolding coreAfter
-clock-after M core = refl
-
-pub bank-length : (M : List ℕ) (core : Core) → length (coreAfter M core .regs) ≡ length (core .regs)
-unfolding coreAfter after
-bank-length M core = length-set (core .regs) _ _
+-- it leaves the lengths of bank and memory
+pub bank-length : (M regs : List ℕ) (s : State) → length (bankOn M regs s) ≡ length regs
+bank-length M regs s = length-set regs _ _
 
 pub memory-length : (M : List ℕ) (v : Visible) → length (memoryAfter M v) ≡ length M
 unfolding memoryAfter
 memory-length M v = applied-length (effectOf (wordDue M v) M v .store) M
 
--- a run under way, with the cycles used by the clock
+-- a run of a budget b under way
 abbrev pub under : Core → State → List ℕ → List ℕ → ℕ → ℕ → Progress
-under core s regs M start count =
-    record { core = joined core s regs; memory = M; used = s .clock .0 - start; finished = count }
+under core s regs M b count =
+    record { core = joined core s regs (b - s .left .0); memory = M; used = b - s .left .0; finished = count }
 
-pub past-one : (core : Core) (s s′ : State) (regs regs′ M M′ : List ℕ) (start count count′ : ℕ)
-    → joined core s′ regs′ ≡ coreAfter M (joined core s regs) → M′ ≡ memoryAfter M (seen s regs) → start ≤ s .clock .0
-    → count′ ≡ count + 1 → under core s′ regs′ M′ start count′ ≡ pastOne (under core s regs M start count)
+-- the engine's state, bank and memory are one instruction on
+pub past-one : (core : Core) → dueOne core ≡ true → (s s′ : State) (regs regs′ M M′ : List ℕ) (b count count′ : ℕ)
+    → s′ ≡ stateOn M regs s → regs′ ≡ bankOn M regs s → M′ ≡ memoryAfter M (seen s regs)
+    → takes M (seen s regs) ≤ s .left .0 → s .left .0 ≤ b → count′ ≡ count + 1
+    → under core s′ regs′ M′ b count′ ≡ pastOne (under core s regs M b count)
 unfolding pastOne
-past-one core s s′ regs regs′ M M′ start count count′ e m l f =
-    let clock : s′ .clock .0 ≡ s .clock .0 + takes M (seen s regs) =
-    ap (λ (core : Core). core .clock .0) e ∙ clock-after M (joined core s regs) in
-    let used : s′ .clock .0 - start ≡ (s .clock .0 - start) + takes M (seen s regs) = omega arith in
-    λ j. record { core = e j; memory = m j; used = used j; finished = f j }
+past-one core one s s′ regs regs′ M M′ b count count′ e r m fits most f =
+    let used : b - s′ .left .0 ≡ (b - s .left .0) + takes M (seen s regs) = omega (arith, ap (λ (s : State). s .left .0) e) in
+    let after = (λ j. joined core (e j) (r j) (used j)) ∙ core-after core one M regs s (b - s .left .0) in
+    λ j. record { core = after j; memory = m j; used = used j; finished = f j }
 
--- what lets an instruction be executed at once
-pub goes-on-when : (s : Stop) (left : ℕ) → goesOn s left ≡ true → (isGoing s ≡ true) × (longest ≤ left)
-goes-on-when s left e = by (leb longest left) refl e
-  where
-    by : (fits : Bool) → leb longest left ≡ fits → cond fits (isGoing s) false ≡ true → (isGoing s ≡ true) × (longest ≤ left)
-    by true f e = (e, leb-true longest left f)
-    by false f e = absurd (let z : _≡_ {A = ℕ} 0 1 = cc in omega arith)
+-- two tests that both hold, and that do not
+both-hold : (x y : Bool) → cond x y false ≡ true → (x ≡ true) × (y ≡ true)
+both-hold true y e = (refl, e)
+both-hold false y e = absurd (let z : _≡_ {A = ℕ} 0 1 = cc in omega arith)
+
+one-fails : (x y : Bool) → cond x y false ≡ false → (x ≡ false) ⊎ (y ≡ false)
+one-fails true y e = inr e
+one-fails false y e = inl refl
+
+-- what lets an instruction be executed at once; and the loop's test of it, which asks too whether one more is to be
+goes-on-when : (s : Stop) (left : ℕ) → goesOn s left ≡ true → (isGoing s ≡ true) × (longest ≤ left)
+goes-on-when s left e =
+    let both = both-hold (isGoing s) (leb longest left) e in
+    (both .0, leb-true longest left (both .1))
+
+pub one-asked : (s : State) (more : ℕ) → cond (goesOn (s .stop) (s .left .0)) (ltb 0 more) false ≡ true
+    → (goesOn (s .stop) (s .left .0) ≡ true) × (longest ≤ s .left .0) × (0 < more)
+one-asked s more e =
+    let both = both-hold (goesOn (s .stop) (s .left .0)) (ltb 0 more) e in
+    (both .0, goes-on-when (s .stop) (s .left .0) (both .0) .1, ltb-true 0 more (both .1))
 
 -- one instruction more, and none
 pub next-one : (n b : ℕ) (p q : Progress) → goesOn (p .core .stop) (b - p .used) ≡ true → q ≡ pastOne p
@@ -88,14 +100,18 @@ unfolding instructionsOn
 next-one n b p q g e =
     ap (λ (goes : Bool). cond goes (instructionsOn n b (pastOne p)) p) g ∙ ap (instructionsOn n b) (sym e)
 
-pub no-next : (n b : ℕ) (p : Progress) → goesOn (p .core .stop) (b - p .used) ≡ false → instructionsOn n b p ≡ p
+no-next : (n b : ℕ) (p : Progress) → goesOn (p .core .stop) (b - p .used) ≡ false → instructionsOn n b p ≡ p
 unfolding instructionsOn
 no-next zero b p g = refl
 no-next (suc n) b p g = ap (λ (goes : Bool). cond goes (instructionsOn n b (pastOne p)) p) g
 
-pub none-asked : (n b : ℕ) (p : Progress) → n ≡ 0 → instructionsOn n b p ≡ p
+pub none-asked : (n b : ℕ) (p : Progress) → cond (goesOn (p .core .stop) (b - p .used)) (ltb 0 n) false ≡ false → instructionsOn n b p ≡ p
 unfolding instructionsOn
-none-asked n b p e = ap (λ (n : ℕ). instructionsOn n b p) e
+none-asked n b p e =
+    ⊎-elim
+    (no-next n b p)
+    (λ e. let none : n ≡ 0 = omega (arith, ltb-false 0 n e) in ap (λ (n : ℕ). instructionsOn n b p) none)
+    (one-fails (goesOn (p .core .stop) (b - p .used)) (ltb 0 n) e)
 
 -- q is k cycles on from p, within a budget
 record Along (b : ℕ) (p q : Progress) : Type 0 where
@@ -161,7 +177,7 @@ module _ (b : ℕ) (core : Core) (M : List ℕ) (going : isGoing (core .stop) �
       let fits = le-leb longest (b - 0) (omega arith) in
       record {
         along = instructions-along b b (starting core M) d (omega arith);
-        some = first-used b b (starting core M) d left (λ j. cond (fits j) (going j) false);
+        some = first-used b b (starting core M) d left (λ j. cond (going j) (fits j) false);
       }
 
   turned : Turned b (starting core M) (ahead b (starting core M))
@@ -242,13 +258,13 @@ onward b p q going below due e =
 pub just-one : (core : Core) (M : List ℕ) → isGoing (core .stop) ≡ true
     → instructionsOn 1 longest (starting core M) ≡ pastOne (starting core M)
 unfolding instructionsOn
-just-one core M going = next-one 0 longest (starting core M) (pastOne (starting core M)) going refl
+just-one core M going = next-one 0 longest (starting core M) (pastOne (starting core M)) (λ j. cond (going j) true false) refl
 
 -- and with the hidden registers zero it is a step's
 pub as-step : (core : Core) (M : List ℕ)
     → let p = pastOne (starting core M) in
     let next = withHidden noHidden (p .core) in
-    record { answer = ran (p .used) 1 (endOf (next .stop) (dueOne next)); core = next; memory = p .memory }
+    record { answer = ran (p .used) (p .finished) (endOf (next .stop) (dueOne next)); core = next; memory = p .memory }
     ≡ steppedReply (takes M (visibleOf core)) (instructed M core) M
 unfolding pastOne coreAfter memoryAfter instructed
 as-step core M =

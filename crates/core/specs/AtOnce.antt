@@ -25,20 +25,21 @@ use Rattle.core.specs.declared.Core.{Core}
 use Rattle.core.specs.declared.State.{State}
 use Rattle.core.specs.declared.Advance.{Advance}
 
--- the state that whole instructions go by, of its parts: no other definition writes it out
+-- the state that whole instructions go by, of its parts, `left` being the cycles that are left of the budget: no other definition writes it out
 abbrev pub stateOf : ℕ → ℕ → Flags → Hidden → Stop → ℕ → State
-stateOf pc sp flags hidden stop clock =
-    record { pc = pc; sp = sp; flags = flags; hidden = hidden; stop = stop; clock = record { 0 = clock } }
+stateOf pc sp flags hidden stop left =
+    record { pc = pc; sp = sp; flags = flags; hidden = hidden; stop = stop; left = record { 0 = left } }
 
--- a core without its bank; what an instruction sees of the two; and the core of the two, with all else as it is in `core`
-abbrev pub restOf : Core → State
-restOf core = stateOf (core .pc) (core .sp) (core .flags) (core .hidden) (core .stop) (core .clock .0)
+-- a core without its bank, and a budget; what an instruction sees of state and bank; and the core of the two after some cycles, with all
+-- else as it is in `core`
+abbrev pub restOf : ℕ → Core → State
+restOf b core = stateOf (core .pc) (core .sp) (core .flags) (core .hidden) (core .stop) b
 
 abbrev pub seen : State → List ℕ → Visible
 seen s regs = visible regs (s .pc) (s .sp) (s .flags) (s .stop)
 
-abbrev pub joined : Core → State → List ℕ → Core
-joined core s regs = withClock (s .clock .0) (withHidden (s .hidden) (withVisible (seen s regs) core))
+abbrev pub joined : Core → State → List ℕ → ℕ → Core
+joined core s regs used = withClock (core .clock .0 + used) (withHidden (s .hidden) (withVisible (seen s regs) core))
 
 -- what an instruction can change, with PC one past it
 abbrev pub beforeOf : State → ℕ → Effect
@@ -52,7 +53,7 @@ executedOf k w regs M s =
 abbrev pub stateAfter : Kind → ℕ → List ℕ → Executed → ℕ → State → State
 stateAfter k w regs done cycles s =
     stateOf (done .effect .pc) (done .effect .sp) (done .effect .flags)
-    (hiddenAfter (stopOf k) w (raOf w regs) (rbOf k w regs) (done .ralu) (s .hidden)) (done .effect .stop) (s .clock .0 + cycles)
+    (hiddenAfter (stopOf k) w (raOf w regs) (rbOf k w regs) (done .ralu) (s .hidden)) (done .effect .stop) (s .left .0 - cycles)
 
 -- the instruction at PC: what it does; state and bank after it
 abbrev pub doneOn : List ℕ → List ℕ → State → Executed
@@ -77,7 +78,7 @@ pastOne p =
 
 -- is the core going, and does the next instruction fit into what is left, whatever it costs?
 abbrev pub goesOn : Stop → ℕ → Bool
-goesOn stop left = cond (leb longest left) (isGoing stop) false
+goesOn stop left = cond (isGoing stop) (leb longest left) false
 
 -- at most n instructions, each where the core is going and b has room for one. With b for n there is no other bound, since each takes 2 cycles
 -- or more

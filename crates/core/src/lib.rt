@@ -2,8 +2,9 @@
 // instructions where the budget has room for them; step is one instruction. No call asks anything of its caller: what does not fit is refused
 // and changes nothing. In a contract `self` is the core as it was handed in, whatever becomes of it.
 ghost use mathlib.Core.Path.{_≡_};
-ghost use mathlib.Core.Bool.{true, cond};
+ghost use mathlib.Core.Bool.{true, false, cond};
 ghost use Prim.Native.Nat.{_+_, _-_, _≤_, _<_};
+ghost use lib.Dec.{ltb};
 ghost use lib.ListN.{set};
 ghost use Rattle.words.specs.Arithmetic.{bit};
 ghost use Rattle.listing.specs.Answers.{storeAnswer};
@@ -56,15 +57,15 @@ pub struct Turn {
     pub store: Store,
 }
 
-// What whole instructions change of a core with cycle 1 due, but for its bank of registers. They are executed on the two apart, so that the
-// bank is not copied.
+// What whole instructions change of a core with cycle 1 due, but for its bank of registers, and what is left of the budget that they spend.
+// They are executed on bank and state apart, so that the bank is not copied.
 struct State {
     pc: u16,
     sp: u16,
     flags: Flags,
     hidden: Hidden,
     stop: Stop,
-    clock: Cycles,
+    left: Cycles,
 }
 
 // A core some cycles on, how many they are, and how many instructions they finished.
@@ -313,16 +314,17 @@ fn apply(store: Store, memory: &mut [u16])
     }
 }
 
-// Is the core going, and is there room for an instruction, whatever it takes? `end` is the clock when the budget is spent.
-fn goes_on(state: State, end: u32) -> bool
-    requires { ⌜ state .clock .0 ≤ end ⌝ }
-    ensures { λ r. ⌜ r ≡ goesOn (state .stop) (end - state .clock .0) ⌝ }
+// Is the core going, is there room for an instruction, whatever it takes, and is one more asked?
+fn goes_on(state: State, more: u32) -> bool
+    ensures { λ r. ⌜ r ≡ cond (goesOn (state .stop) (state .left .0)) (ltb 0 more) false ⌝ }
 {
     let stop = state.stop;
-    if end - state.clock.0 < LONGEST {
-        return false;
+    if is_going(stop) {
+        if LONGEST <= state.left.0 {
+            return 0 < more;
+        }
     }
-    is_going(stop)
+    false
 }
 
 impl State {
@@ -353,9 +355,10 @@ impl State {
         effects::execute(kind, word, ra, rb, hidden, memory, before)
     }
 
-    // The state after that instruction and its cycles, with the hidden registers as these leave them; `regs` are the registers before it.
+    // The state after that instruction and its cycles, with the hidden registers as these leave them; `regs` are the registers before it. The
+    // hidden registers are written out here: a run takes longer where a callee makes them.
     fn after(self, kind: Kind, word: u16, regs: &[u16], done: Executed, cycles: Cycles) -> State
-        requires { ⌜ self .clock .0 + cycles .0 ≤ 4294967295 ⌝ }
+        requires { ⌜ cycles .0 ≤ self .left .0 ⌝ }
         ensures { λ r. ⌜ r ≡ stateAfter kind word (now (regs .entry)) done (cycles .0) self ⌝ }
     {
         let stop = effects::stop_of(kind);
@@ -370,15 +373,20 @@ impl State {
             pc: changed.pc,
             sp: changed.sp,
             flags: flags_after,
-            hidden: hidden.after(stop, word, ra, rb, done.ralu),
+            hidden: Hidden {
+                ir: word,
+                ra: effects::latched(stop, ra, hidden.ra),
+                rb: effects::latched(stop, rb, hidden.rb),
+                ralu: done.ralu,
+            },
             stop: stop_after,
-            clock: Cycles(self.clock.0 + cycles.0),
+            left: Cycles(self.left.0 - cycles.0),
         }
     }
 
     // The instruction engine: the instruction at PC, with the bank and the memory changed where they lie.
     fn instruct(self, regs: &mut [u16], memory: &mut [u16]) -> State
-        requires { ⌜ self .clock .0 + longest ≤ 4294967295 ⌝ }
+        requires { ⌜ longest ≤ self .left .0 ⌝ }
         ensures { λ r. ⌜ (r ≡ stateOn (now (memory .entry)) (now (regs .entry)) self) × (now (regs .exit) ≡ bankOn (now (memory .entry)) (now (regs .entry)) self) × (now (memory .exit) ≡ memoryAfter (now (memory .entry)) (seen self (now (regs .entry)))) ⌝ }
     {
         let word = words::read(memory, self.pc);
@@ -606,32 +614,32 @@ impl Core {
         }
     }
 
-    // The core without its bank, where cycle 1 is due.
-    fn rest(self) -> State
-        ensures { λ r. ⌜ r ≡ restOf self ⌝ }
+    // The core without its bank, where cycle 1 is due, and a budget.
+    fn rest(self, b: u32) -> State
+        ensures { λ r. ⌜ r ≡ restOf b self ⌝ }
     {
         let flags = self.flags;
         let hidden = self.hidden;
         let stop = self.stop;
-        let clock = self.clock;
         State {
             pc: self.pc,
             sp: self.sp,
             flags: flags,
             hidden: hidden,
             stop: stop,
-            clock: clock,
+            left: Cycles(b),
         }
     }
 
-    // The core with a state and a bank put into it, and all else as it is.
-    fn joined(mut self, state: State, regs: [u16; 16]) -> Core
-        ensures { λ r. ⌜ r ≡ joined self state regs ⌝ }
+    // The core with a state and a bank put into it, its clock on by the cycles used, and all else as it is.
+    fn joined(mut self, state: State, regs: [u16; 16], used: Cycles) -> Core
+        requires { ⌜ self .clock .0 + used .0 ≤ 4294967295 ⌝ }
+        ensures { λ r. ⌜ r ≡ joined self state regs (used .0) ⌝ }
     {
         let flags = state.flags;
         let hidden = state.hidden;
         let stop = state.stop;
-        let clock = state.clock;
+        let clock = Cycles(self.clock.0 + used.0);
         self.regs = regs;
         self.pc = state.pc;
         self.sp = state.sp;
@@ -647,18 +655,17 @@ impl Core {
         ensures { λ r. ⌜ reached r (now (memory .exit)) ≡ instructionsOn most b (starting self (now (memory .entry))) ⌝ }
     {
         let mut regs = self.regs;
-        let mut state = self.rest();
-        let mut left = most;
-        let start = state.clock.0;
-        while left != 0 && goes_on(state, start + b) {
+        let mut state = self.rest(b);
+        let mut more = most;
+        while goes_on(state, more) {
             state = state.instruct(&mut regs, memory);
-            left -= 1;
+            more -= 1;
         }
-        let cycles = Cycles(state.clock.0 - start);
+        let used = Cycles(b - state.left.0);
         Advance {
-            core: self.joined(state, regs),
-            cycles: cycles,
-            instructions: Instructions(most - left),
+            core: self.joined(state, regs, used),
+            cycles: used,
+            instructions: Instructions(most - more),
         }
     }
 
@@ -823,9 +830,10 @@ impl Core {
         }
         let one = self.instructions(1, LONGEST, memory);
         let used = one.cycles;
+        let finished = one.instructions;
         let next = one.core;
         self = next;
-        self.without_hidden().ran(used, Instructions(1))
+        self.without_hidden().ran(used, finished)
     }
 
     // All but the hidden registers; where it is refused, the snapshot is that of a fresh core.

@@ -4,7 +4,7 @@ ghost use mathlib.Core.Path.{_≡_};
 ghost use Rattle.alu.specs.Flags.{silent as quiet};
 ghost use Rattle.effects.specs.Effect.{toRt, toPc, toSp, stopping, storing, result, loaded, pushed};
 ghost use Rattle.effects.specs.Table.{jumped};
-ghost use Rattle.effects.specs.Cycles.{stopOf, calculated, writtenBack, unlessStopping, hiddenAfter, leaving, atOnce};
+ghost use Rattle.effects.specs.Cycles.{stopOf, calculated, writtenBack, unlessStopping, leaving, atOnce};
 use alu::Outcome;
 use isa::Condition;
 use isa::Flags;
@@ -47,23 +47,8 @@ pub struct Executed {
     pub ralu: u16,
 }
 
-impl Hidden {
-    // What the cycles of an instruction leave in them: IR has its word; RA and RB are latched unless cycle 2 stops the core; RALU has the value
-    // of cycle 3.
-    pub fn after(self, stop: Stop, word: u16, ra: u16, rb: u16, ralu: u16) -> Hidden
-        ensures { λ r. ⌜ r ≡ hiddenAfter stop word ra rb ralu self ⌝ }
-    {
-        Hidden {
-            ir: word,
-            ra: latched(stop, ra, self.ra),
-            rb: latched(stop, rb, self.rb),
-            ralu: ralu,
-        }
-    }
-}
-
-// RA or RB after cycle 2.
-fn latched(stop: Stop, new: u16, old: u16) -> u16
+// RA or RB after cycle 2: latched, unless that stops the core.
+pub fn latched(stop: Stop, new: u16, old: u16) -> u16
     ensures { λ r. ⌜ r ≡ unlessStopping stop new old ⌝ }
 {
     match stop {

@@ -1,14 +1,18 @@
--- `core::goes_on` meets its contract: by whether 4 cycles are left. Assumes nothing.
-use borrow.Author.Tests.{lt-leb, le-leb}
+-- `core::goes_on` meets its contract: by whether the core is going, and there is room. Assumes nothing.
+use mathlib.Core.Path.{sym, _∙_}
 use borrow.Author.Needs.{needs}
+use borrow.Author.Tests.{le-leb, lt-leb}
 use Rattle.core.proofs.goes_on.Statement.{statement}
 use Rattle.core.proofs.goes_on.Tie as tie
 
 returns : tie.Need-returns
-returns c = rw (lt-leb _ _ (c .if1 .taken))
+returns c = rw (sym (c .before .before .before .is-going .ensures) ∙ c .before .before .if1 .taken, le-leb _ _ (c .if2 .taken))
 
 returns-2 : tie.Need-returns-2
-returns-2 c = rw (le-leb _ _ (c .before .if1 .left)) (c .is-going .ensures)
+returns-2 c = rw (sym (c .before .before .before .is-going .ensures) ∙ c .before .before .if1 .taken, lt-leb _ _ (c .if2 .left))
+
+returns-3 : tie.Need-returns-3
+returns-3 c = rw (sym (c .before .is-going .ensures) ∙ c .if1 .left)
 
 pub goes-on-spec : {M : Type 1} → statement M
-goes-on-spec = tie.close (tie.spec (λ c. search needs) returns (λ c κs. search needs) returns-2)
+goes-on-spec = tie.close (tie.spec (λ c κs. search needs) returns returns-2 returns-3)

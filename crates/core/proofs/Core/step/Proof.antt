@@ -39,7 +39,7 @@ instructions-requires c κs =
 
 returns-2 : tie.Need-returns-2
 returns-2 c =
-    let n = c .before .before .before .before .before .before in
+    let n = c .before .before .before .before .before .before .before in
     let verdict = n .before .before .before .before in
     let a = verdict .before .before .before .before .args in
     let at : Bool → ℕ = λ ready. runNumber (length (a .memory .now)) (a .self .stop) ready (a .self .clock .0) longest in
@@ -49,7 +49,7 @@ returns-2 c =
     let one = n .instructions .ensures ∙ just-one (a .self) (a .memory .now) going in
     let core = c .before .without-hidden .ensures ∙ (λ j. withHidden noHidden (one j .core)) in
     let next = c .ran .ensures .0 ∙ core in
-    let answer = c .ran .ensures .1 ∙ (λ j. ran (one j .used) 1 (endOf (core j .stop) (dueOne (core j)))) in
+    let answer = c .ran .ensures .1 ∙ (λ j. ran (one j .used) (one j .finished) (endOf (core j .stop) (dueOne (core j)))) in
     (λ j. record { answer = answer j; core = next j; memory = one j .memory })
     ∙ as-step (a .self) (a .memory .now)
     ∙ sym (step-starts (a .self) (a .memory .now) none)

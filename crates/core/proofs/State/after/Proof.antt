@@ -1,38 +1,36 @@
 -- `core::State::after` meets its contract: each part by what its callee ensures. Assumes nothing.
 use mathlib.Core.Path.{ap, ap₂, _∙_}
-use Prim.Native.Nat.{_+_}
-use native.Mathlib.Omega.{arith}
+use Prim.Native.Nat.{_-_}
 use Rattle.isa.specs.Control.{secondRegister}
-use Rattle.effects.specs.Cycles.{hiddenAfter}
+use Rattle.effects.specs.Hidden.{withIr, withRaRb, withRalu}
+use Rattle.effects.specs.Cycles.{unlessStopping}
 use Rattle.core.specs.State.{register}
 use Rattle.core.specs.AtOnce.{stateOf}
 use borrow.Author.Needs.{needs}
 use Rattle.core.proofs.State.after.Statement.{statement}
 use Rattle.core.proofs.State.after.Tie as tie
 
-add-t18 : tie.Need-add-t18
-add-t18 c =
-    omega (arith, c .before .before .before .before .before .before .before .before .before .before .before .before .before .before .pre)
-
 returns : tie.Need-returns
 returns c =
-    let l = c .before .before .before .before .before .before in
+    let l = c .before .before .before .before .before .before .before in
     let m = l .before .before .before .before in
     let a = m .before .before .before .before .args in
     let regs = a .regs .now in
+    let h = a .self .hidden in
     let stop = m .before .before .stop-of .ensures in
     let first = m .register-of .ensures ∙ ap (register regs) (m .before .field-a .ensures) in
     let index = l .before .second-register .ensures ∙ ap₂ (secondRegister (a .kind)) (l .before .before .before .field-t .ensures) (l .before .before .field-b .ensures) in
     let second = l .register-of2 .ensures ∙ ap (register regs) index in
-    let hidden = c .before .before .after .ensures ∙ (λ j. hiddenAfter (stop j) (a .word) (first j) (second j) (a .done .ralu) (a .self .hidden)) in
+    let ra = c .before .before .before .latched .ensures ∙ (λ j. unlessStopping (stop j) (first j) (h .ra)) in
+    let rb = c .before .before .latched2 .ensures ∙ (λ j. unlessStopping (stop j) (second j) (h .rb)) in
     let effect = a .done .effect in
-    λ j. stateOf (effect .pc) (effect .sp) (effect .flags) (hidden j) (effect .stop) (a .self .clock .0 + a .cycles .0)
+    λ j. stateOf (effect .pc) (effect .sp) (effect .flags) (withRalu (a .done .ralu) (withRaRb (ra j) (rb j) (withIr (a .word) h))) (effect .stop)
+    (a .self .left .0 - a .cycles .0)
 
 pub after-spec : {M : Type 1} → statement M
 after-spec =
     tie.close
     (tie.spec
     (λ c κs. search needs) (λ c κs. search needs) (λ c κs. search needs) (λ c κs. search needs) (λ c κs. search needs)
-    (λ c κs. search needs) (λ c κs. search needs) (λ c κs. search needs)
-    add-t18
+    (λ c κs. search needs) (λ c κs. search needs) (λ c κs. search needs) (λ c κs. search needs) (λ c. search needs)
     returns)
