@@ -25,7 +25,7 @@ use Rattle.core.specs.Calls.{ran, endOf, Progress, advanced, cyclesOn, s
 use Rattle.core.specs.AtOnce.{seen, joined, beforeOf, stateAfter, doneOn, stateOn, bankOn, pastOne, goesOn, instructionsOn, ahead}
 use Rattle.core.specs.declared.Core.{Core}
 use Rattle.core.specs.declared.State.{State}
-use Rattle.core.proofs.Spent.{due-when-one}
+use Rattle.core.proofs.Spent.{both, due-when-one}
 use Rattle.core.proofs.Cycles.{only-going, one-more, none-more, no-cycle, cycles-add, counted, cycles-counted, cost-range}
 use Rattle.core.proofs.OneInstruction.{one-instruction}
 use Rattle.core.proofs.Endings.{clock-moves}
@@ -72,11 +72,7 @@ past-one core one s s′ regs regs′ M M′ b count count′ e r m fits most f 
     let after = (λ j. joined core (e j) (r j) (used j)) ∙ core-after core one M regs s (b - s .left .0) in
     λ j. record { core = after j; memory = m j; used = used j; finished = f j }
 
--- two tests that both hold, and that do not
-both-hold : (x y : Bool) → cond x y false ≡ true → (x ≡ true) × (y ≡ true)
-both-hold true y e = (refl, e)
-both-hold false y e = absurd (let z : _≡_ {A = ℕ} 0 1 = cc in omega arith)
-
+-- two tests that do not both hold
 one-fails : (x y : Bool) → cond x y false ≡ false → (x ≡ false) ⊎ (y ≡ false)
 one-fails true y e = inr e
 one-fails false y e = inl refl
@@ -84,14 +80,14 @@ one-fails false y e = inl refl
 -- what lets an instruction be executed at once; and the loop's test of it, which asks too whether one more is to be
 goes-on-when : (s : Stop) (left : ℕ) → goesOn s left ≡ true → (isGoing s ≡ true) × (longest ≤ left)
 goes-on-when s left e =
-    let both = both-hold (isGoing s) (leb longest left) e in
-    (both .0, leb-true longest left (both .1))
+    let tests = both (isGoing s) (leb longest left) e in
+    (tests .0, leb-true longest left (tests .1))
 
 pub one-asked : (s : State) (more : ℕ) → cond (goesOn (s .stop) (s .left .0)) (ltb 0 more) false ≡ true
     → (goesOn (s .stop) (s .left .0) ≡ true) × (longest ≤ s .left .0) × (0 < more)
 one-asked s more e =
-    let both = both-hold (goesOn (s .stop) (s .left .0)) (ltb 0 more) e in
-    (both .0, goes-on-when (s .stop) (s .left .0) (both .0) .1, ltb-true 0 more (both .1))
+    let tests = both (goesOn (s .stop) (s .left .0)) (ltb 0 more) e in
+    (tests .0, goes-on-when (s .stop) (s .left .0) (tests .0) .1, ltb-true 0 more (tests .1))
 
 -- one instruction more, and none
 pub next-one : (n b : ℕ) (p q : Progress) → goesOn (p .core .stop) (b - p .used) ≡ true → q ≡ pastOne p

@@ -1,5 +1,6 @@
 -- Laws about the definitions of `core`, and its theorems.
 pub mod Spent
+pub mod Parts
 pub mod Cycles
 pub mod OneInstruction
 pub mod AtOnce

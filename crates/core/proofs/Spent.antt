@@ -28,12 +28,13 @@ due-when-one core e = eqb-true (core .due) 1 (sym (one-due core) ∙ e)
 pub one-when-due : (core : Core) → core .due ≡ 1 → dueOne core ≡ true
 one-when-due core e = one-due core ∙ eq-eqb (core .due) 1 e
 
--- one of 1 to 4
-both : (p q : Bool) → cond p q false ≡ true → (p ≡ true) × (q ≡ true)
+-- two tests that both hold
+pub both : (p q : Bool) → cond p q false ≡ true → (p ≡ true) × (q ≡ true)
 both true true e = (refl, refl)
 both true false e = absurd (let z : _≡_ {A = ℕ} 0 1 = cc in omega arith)
 both false q e = absurd (let z : _≡_ {A = ℕ} 0 1 = cc in omega arith)
 
+-- one of 1 to 4
 pub due-when : (core : Core) → dueInRange core ≡ true → (1 ≤ core .due) × (core .due ≤ 4)
 due-when core e =
     let r = both (leb 1 (core .due)) (leb (core .due) 4) e in

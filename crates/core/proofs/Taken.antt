@@ -1,4 +1,5 @@
--- The theorems `RunTaken`, `StepTaken` and `OthersTaken` of specs/TheoremsOfCalls.antt: where no number applies the reply is the call's own.
+-- The theorems `RunTaken`, `CycleExactly`, `StepTaken` and `OthersTaken` of specs/TheoremsOfCalls.antt: where no number applies the reply is the
+-- call's own.
 use mathlib.Core.Path.{_≡_, refl, sym, ap, _∙_}
 use mathlib.Core.Logic.{_⊎_, inl, inr}
 use mathlib.Core.Bool.{Bool, true, false, not, cond}
@@ -80,6 +81,7 @@ none-done core memory (inr out) =
 pub cycle-exactly : CycleExactly
 unfolding advanced
 cycle-exactly core memory = (
+  λ room. within-clock memory core room,
   λ taken. let number = no-run-number core memory 1 taken in
       let r = ready _ _ _ _ _ number in
       let room = r .room in

@@ -29,7 +29,7 @@ past v = visible (v .regs) (sum (v .pc) 1) (v .sp) (v .flags) (v .stop)
 
 -- 'then the table'
 abbrev pub executedOn : Kind → ℕ → List ℕ → Visible → Effect
-executedOn kind w M v = executed kind w (register (v .regs) (fieldA w)) (register (v .regs) (fieldB w)) M (reach w v)
+executedOn kind w M v = executed kind w (raOf w (v .regs)) (register (v .regs) (fieldB w)) M (reach w v)
 
 abbrev pub effectOf : ℕ → List ℕ → Visible → Effect
 effectOf w M v = executedOn (kindOf w) w M (past v)

@@ -1,6 +1,8 @@
--- What the engines come to: the cycles of an instruction do what the table says; a core that no call made; the values of document 01's
--- proof bench. Three statements, proved in proofs/OneInstruction.antt, proofs/Foreign.antt and proofs/Bench.antt.
+-- What a core's parts and its cycles spent are; what the engines come to: the cycles of an instruction do what the table says; a core that no
+-- call made; the values of document 01's proof bench. Five statements, proved in proofs/Parts.antt, proofs/OneInstruction.antt,
+-- proofs/Foreign.antt and proofs/Bench.antt.
 use mathlib.Core.Path.{_≡_}
+use mathlib.Core.Logic.{_↔_}
 use mathlib.Core.Bool.{Bool, true, false}
 use mathlib.Core.List.{List}
 use Prim.Native.Nat.{ℕ, _+_, _≤_, _<_}
@@ -9,18 +11,51 @@ use Rattle.words.specs.Memory.{wordAt}
 use Rattle.words.specs.Arithmetic.{sum}
 use Rattle.isa.specs.Cost.{costOf}
 use Rattle.table.specs.Table.{kindOf}
+use Rattle.isa.specs.declared.Flags.{Flags}
 use Rattle.alu.specs.declared.Outcome.{Outcome}
 use Rattle.effects.specs.Hidden.{withRalu}
 use Rattle.effects.specs.Cycles.{calculated}
+use Rattle.effects.specs.declared.Hidden.{Hidden}
+use Rattle.effects.specs.declared.Stop.{Stop}
 use Rattle.effects.specs.declared.Stop.the-variants.{Going, Undefined}
 use Rattle.effects.specs.declared.Store.the-variants.{Nothing}
-use Rattle.core.specs.State.{freshCore, withRegs, withPc, withDue, withClock, visibleOf, register, raOf, rbOf, reach}
+use Rattle.core.specs.State.{freshCore, withRegs, withPc, withSp, withFlags, withHidden, withDue, stopped, withClock, visibleOf, register, raOf, rbOf, reach}
 use Rattle.core.specs.Spent.{spentOf, dueInRange, dueOne}
 use Rattle.core.specs.Datapath.{cycled}
 use Rattle.core.specs.Instruction.{past, takes, instructed}
 use Rattle.core.specs.Calls.{Progress, cyclesOn, starting}
 use Rattle.core.specs.AtOnce.{pastOne}
 use Rattle.core.specs.declared.Core.{Core}
+
+-- a core with these parts
+abbrev pub Has : List ℕ → ℕ → ℕ → Flags → Hidden → ℕ → Stop → ℕ → Core → Type 0
+Has regs pc sp flags hidden due stop clock core =
+    (core .regs ≡ regs)
+    × (core .pc ≡ pc)
+    × (core .sp ≡ sp)
+    × (core .flags ≡ flags)
+    × (core .hidden ≡ hidden)
+    × (core .due ≡ due)
+    × (core .stop ≡ stop)
+    × (core .clock .0 ≡ clock)
+
+-- each setter of State sets its part and leaves all others: set one after the other, and in the other order, all parts are as they were set
+-- (proved as `parts-apart`)
+abbrev pub PartsApart : Type 0
+PartsApart =
+    (regs : List ℕ) (pc sp : ℕ) (flags : Flags) (hidden : Hidden) (due : ℕ) (stop : Stop) (clock : ℕ) (core : Core)
+    → Has regs pc sp flags hidden due stop clock
+    (withRegs regs (withPc pc (withSp sp (withFlags flags (withHidden hidden (withDue due (stopped stop (withClock clock core))))))))
+    × Has regs pc sp flags hidden due stop clock
+    (withClock clock (stopped stop (withDue due (withHidden hidden (withFlags flags (withSp sp (withPc pc (withRegs regs core))))))))
+
+-- 'cycles spent .., compared with the cycle due less one'; 'cycle 1 is due when s is 0' (proved as `spent-exactly`)
+abbrev pub SpentExactly : Type 0
+SpentExactly =
+    (core : Core)
+    → ((dueInRange core ≡ true) ↔ ((1 ≤ core .due) × (core .due ≤ 4)))
+    × ((dueOne core ≡ true) ↔ (core .due ≡ 1))
+    × (dueInRange core ≡ true → core .due ≡ spentOf core + 1)
 
 -- what cycle 3 gives of the instruction that starts at p, from IR, RA and RB as latched
 abbrev pub outcomeOf : Progress → Core → Outcome

@@ -15,7 +15,7 @@ use Rattle.effects.specs.Hidden.{noHidden}
 use Rattle.core.specs.State.{freshCore, withHidden, visibleOf}
 use Rattle.core.specs.Instruction.{takes}
 use Rattle.core.specs.Calls.{Answer, done, stored, ran, viewed, refused, refusedAt, Reply, reset, load, view, advancedBy, starting, ranReply, run, step}
-use Rattle.core.specs.Datapath.{oneCycle}
+use Rattle.core.specs.Datapath.{cycled, oneCycle}
 use Rattle.core.specs.declared.Core.{Core}
 use Rattle.core.specs.declared.End.{End}
 use Rattle.core.specs.declared.End.the-variants.{H, U, B, M}
@@ -131,12 +131,14 @@ RunAgain =
     × (whole .core ≡ second .core)
     × (whole .memory ≡ second .memory))
 
--- one cycle of any core is what a run of 1 does, where that is taken; a core whose clock is full, or whose cycle due is none of 1 to 4, is
--- handed back as it is, with nothing finished or stored (proved as `cycle-exactly`)
+-- one cycle of any core, on any memory: it is the datapath's, of a stopped core too, where the clock has room; where a run of 1 is taken it is
+-- what that does; a core whose clock is full, or whose cycle due is none of 1 to 4, is handed back as it is, with nothing finished or stored
+-- (proved as `cycle-exactly`)
 abbrev pub CycleExactly : Type 0
 CycleExactly =
     (core : Core) (memory : List ℕ)
-    → (Taken (runNumbers 1 core memory)
+    → (core .clock .0 < 4294967295 → oneCycle memory core ≡ cycled memory core)
+    × (Taken (runNumbers 1 core memory)
     → run 1 core memory ≡ ranReply (advancedBy (oneCycle memory core) (starting core memory)))
     × ((4294967295 ≤ core .clock .0) ⊎ ((core .due < 1) ⊎ (4 < core .due))
     → oneCycle memory core ≡ record { core = core; finished = false; store = Nothing })

@@ -3,7 +3,7 @@
 // and changes nothing. In a contract `self` is the core as it was handed in, whatever becomes of it.
 ghost use mathlib.Core.Path.{_≡_};
 ghost use mathlib.Core.Bool.{true, false, cond};
-ghost use Prim.Native.Nat.{_+_, _-_, _≤_, _<_};
+ghost use Prim.Native.Nat.{_+_, _≤_, _<_};
 ghost use lib.Dec.{ltb};
 ghost use lib.ListN.{set};
 ghost use Rattle.words.specs.Arithmetic.{bit};
@@ -375,8 +375,8 @@ impl State {
             flags: flags_after,
             hidden: Hidden {
                 ir: word,
-                ra: effects::latched(stop, ra, hidden.ra),
-                rb: effects::latched(stop, rb, hidden.rb),
+                ra: effects::unless_stopping(stop, ra, hidden.ra),
+                rb: effects::unless_stopping(stop, rb, hidden.rb),
                 ralu: done.ralu,
             },
             stop: stop_after,
@@ -614,7 +614,7 @@ impl Core {
         }
     }
 
-    // The core without its bank, where cycle 1 is due, and a budget.
+    // What whole instructions change of the core, but for its bank, and the budget that they have.
     fn rest(self, b: u32) -> State
         ensures { λ r. ⌜ r ≡ restOf b self ⌝ }
     {

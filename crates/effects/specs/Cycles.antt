@@ -1,5 +1,5 @@
--- Document 01, 'Datapath cycles': what the cycles 2, 3 and 4 do, by the instruction in IR. (The fetch of cycle 1 and the latching of
--- cycle 2 are the core's.) Then an instruction at once, with what its cycles leave in the hidden registers.
+-- Document 01, 'Datapath cycles': what the cycles 2, 3 and 4 do, by the instruction in IR. (The fetch of cycle 1, and which registers cycle 2
+-- latches, are the core's.) Then an instruction at once, with what its cycles leave in the hidden registers.
 use Prim.Native.Nat.{ℕ}
 use mathlib.Core.List.{List}
 use Rattle.words.specs.Memory.{wordAt}
@@ -84,7 +84,8 @@ unlessStopping stop.the-variants.Undefined new old = old
 abbrev pub hiddenAfter : Stop → ℕ → ℕ → ℕ → ℕ → Hidden → Hidden
 hiddenAfter s w RA RB v h = withRalu v (withRaRb (unlessStopping s RA (h .ra)) (unlessStopping s RB (h .rb)) (withIr w h))
 
--- an instruction at once: what the table says of it, and the value that cycle 3 gives RALU, from IR, RA and RB as latched
+-- an instruction at once: what the table says of it, and the value that cycle 3 gives RALU, from IR, RA and RB as latched: of the values rt and
+-- rb, RB takes that of the register that cycle 2 would choose
 abbrev pub leaving : ℕ → Effect → Executed
 leaving RALU x = record { effect = x; ralu = RALU }
 

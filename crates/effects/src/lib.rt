@@ -1,12 +1,11 @@
-// What an instruction does to the values that it can reach: by the instruction table at once, and cycle by cycle, where cycle 2 has a
-// part only in stopping. There is no core here: the caller hands in the registers that the word names, and writes back what comes out.
+// What an instruction does to the values that it can reach: by the instruction table at once, and cycle by cycle, of cycle 2 whether it stops
+// and what RA and RB are after it. There is no core here: the caller hands in the registers that the word names, and writes back what comes out.
 ghost use mathlib.Core.Path.{_≡_};
 ghost use Rattle.alu.specs.Flags.{silent as quiet};
 ghost use Rattle.effects.specs.Effect.{toRt, toPc, toSp, stopping, storing, result, loaded, pushed};
 ghost use Rattle.effects.specs.Table.{jumped};
 ghost use Rattle.effects.specs.Cycles.{stopOf, calculated, writtenBack, unlessStopping, leaving, atOnce};
 use alu::Outcome;
-use isa::Condition;
 use isa::Flags;
 use isa::Kind;
 
@@ -48,7 +47,7 @@ pub struct Executed {
 }
 
 // RA or RB after cycle 2: latched, unless that stops the core.
-pub fn latched(stop: Stop, new: u16, old: u16) -> u16
+pub fn unless_stopping(stop: Stop, new: u16, old: u16) -> u16
     ensures { λ r. ⌜ r ≡ unlessStopping stop new old ⌝ }
 {
     match stop {

@@ -12,8 +12,8 @@ pub fn read(memory: &[u16], x: u16) -> u16
     if i < memory.len() { memory[i] } else { 0 }
 }
 
-// The word stored at an address, or lost at or past the end. Memory is written through this alone: by the stores of cycles and instructions,
-// and by the lines of a listing.
+// The word stored at an address, or lost at or past the end. The libraries write memory through this alone: by the stores of cycles and
+// instructions, and by the lines of a listing.
 pub fn write(memory: &mut [u16], x: u16, v: u16)
     ensures { λ _. ⌜ now (memory .exit) ≡ stored (now (memory .entry)) x v ⌝ }
 {

@@ -21,8 +21,8 @@ returns c =
     let first = m .register-of .ensures ∙ ap (register regs) (m .before .field-a .ensures) in
     let index = l .before .second-register .ensures ∙ ap₂ (secondRegister (a .kind)) (l .before .before .before .field-t .ensures) (l .before .before .field-b .ensures) in
     let second = l .register-of2 .ensures ∙ ap (register regs) index in
-    let ra = c .before .before .before .latched .ensures ∙ (λ j. unlessStopping (stop j) (first j) (h .ra)) in
-    let rb = c .before .before .latched2 .ensures ∙ (λ j. unlessStopping (stop j) (second j) (h .rb)) in
+    let ra = c .before .before .before .unless-stopping .ensures ∙ (λ j. unlessStopping (stop j) (first j) (h .ra)) in
+    let rb = c .before .before .unless-stopping2 .ensures ∙ (λ j. unlessStopping (stop j) (second j) (h .rb)) in
     let effect = a .done .effect in
     λ j. stateOf (effect .pc) (effect .sp) (effect .flags) (withRalu (a .done .ralu) (withRaRb (ra j) (rb j) (withIr (a .word) h))) (effect .stop)
     (a .self .left .0 - a .cycles .0)
