@@ -1,11 +1,19 @@
--- The theorems `PartsApart` and `SpentExactly` of specs/Theorems.antt: by what setters and tests compute to. Assumes nothing.
+-- The theorems `CoreParts` and `SpentExactly` of specs/Theorems.antt: by what setters and tests compute to. Assumes nothing.
 use mathlib.Core.Path.{refl}
-use Rattle.core.specs.Theorems.{PartsApart, SpentExactly}
+use Rattle.core.specs.Theorems.{CoreParts, SpentExactly}
 use Rattle.core.proofs.Spent.{due-when, range-when, due-when-one, one-when-due, due-of-spent}
 
-pub parts-apart : PartsApart
-parts-apart regs pc sp flags hidden due stop clock core =
-    ((refl, refl, refl, refl, refl, refl, refl, refl), (refl, refl, refl, refl, refl, refl, refl, refl))
+pub core-parts : CoreParts
+core-parts regs n flags hidden stop c = (
+  (refl, refl, refl, refl, refl, refl, refl, refl),
+  (refl, refl, refl, refl, refl, refl, refl, refl),
+  (refl, refl, refl, refl, refl, refl, refl, refl),
+  (refl, refl, refl, refl, refl, refl, refl, refl),
+  (refl, refl, refl, refl, refl, refl, refl, refl),
+  (refl, refl, refl, refl, refl, refl, refl, refl),
+  (refl, refl, refl, refl, refl, refl, refl, refl),
+  (refl, refl, refl, refl, refl, refl, refl, refl),
+)
 
 pub spent-exactly : SpentExactly
 spent-exactly core = (

@@ -30,8 +30,8 @@ abbrev pub stateOf : ℕ → ℕ → Flags → Hidden → Stop → ℕ → State
 stateOf pc sp flags hidden stop left =
     record { pc = pc; sp = sp; flags = flags; hidden = hidden; stop = stop; left = record { 0 = left } }
 
--- what whole instructions change of a core, but for its bank, with a budget; what an instruction sees of state and bank; and the core of the
--- two after some cycles, with all else as it is in `core`
+-- the state that whole instructions start from, with a budget b; what an instruction sees of state and bank; and the core of the two after
+-- some cycles, with all else as it is in `core`
 abbrev pub restOf : ℕ → Core → State
 restOf b core = stateOf (core .pc) (core .sp) (core .flags) (core .hidden) (core .stop) b
 

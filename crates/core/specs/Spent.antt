@@ -1,6 +1,6 @@
--- Document 01, 'Calls and the instruction machine': 'cycles spent (0 to 3), compared with the cycle due less one'. Numbers, letters and what is
--- compared with the machine ask these three. The cycle due itself is named by the datapath, by what hands a core out, and by the theorems
--- that have document 01's own words; `SpentExactly` joins the two.
+-- Document 01, 'Calls and the instruction machine': 'cycles spent (0 to 3), compared with the cycle due less one'. Numbers, letters, what is
+-- compared with the machine and the theorems on the engines ask these three. The cycle due itself is named by the datapath, by what hands a
+-- core out, and by the theorems that have document 01's own words; `SpentExactly` joins the two.
 use mathlib.Core.Bool.{Bool, false, cond}
 use Prim.Native.Nat.{ℕ, _-_}
 use lib.Dec.{eqb, leb}

@@ -39,15 +39,19 @@ Has regs pc sp flags hidden due stop clock core =
     × (core .stop ≡ stop)
     × (core .clock .0 ≡ clock)
 
--- each setter of State sets its part and leaves all others: set one after the other, and in the other order, all parts are as they were set
--- (proved as `parts-apart`)
-abbrev pub PartsApart : Type 0
-PartsApart =
-    (regs : List ℕ) (pc sp : ℕ) (flags : Flags) (hidden : Hidden) (due : ℕ) (stop : Stop) (clock : ℕ) (core : Core)
-    → Has regs pc sp flags hidden due stop clock
-    (withRegs regs (withPc pc (withSp sp (withFlags flags (withHidden hidden (withDue due (stopped stop (withClock clock core))))))))
-    × Has regs pc sp flags hidden due stop clock
-    (withClock clock (stopped stop (withDue due (withHidden hidden (withFlags flags (withSp sp (withPc pc (withRegs regs core))))))))
+-- each setter of State sets its part and leaves all others, of every core: else a wrong one could stand on both sides of a statement (proved as
+-- `core-parts`)
+abbrev pub CoreParts : Type 0
+CoreParts =
+    (regs : List ℕ) (n : ℕ) (flags : Flags) (hidden : Hidden) (stop : Stop) (c : Core)
+    → Has regs (c .pc) (c .sp) (c .flags) (c .hidden) (c .due) (c .stop) (c .clock .0) (withRegs regs c)
+    × Has (c .regs) n (c .sp) (c .flags) (c .hidden) (c .due) (c .stop) (c .clock .0) (withPc n c)
+    × Has (c .regs) (c .pc) n (c .flags) (c .hidden) (c .due) (c .stop) (c .clock .0) (withSp n c)
+    × Has (c .regs) (c .pc) (c .sp) flags (c .hidden) (c .due) (c .stop) (c .clock .0) (withFlags flags c)
+    × Has (c .regs) (c .pc) (c .sp) (c .flags) hidden (c .due) (c .stop) (c .clock .0) (withHidden hidden c)
+    × Has (c .regs) (c .pc) (c .sp) (c .flags) (c .hidden) n (c .stop) (c .clock .0) (withDue n c)
+    × Has (c .regs) (c .pc) (c .sp) (c .flags) (c .hidden) (c .due) stop (c .clock .0) (stopped stop c)
+    × Has (c .regs) (c .pc) (c .sp) (c .flags) (c .hidden) (c .due) (c .stop) n (withClock n c)
 
 -- 'cycles spent .., compared with the cycle due less one'; 'cycle 1 is due when s is 0' (proved as `spent-exactly`)
 abbrev pub SpentExactly : Type 0

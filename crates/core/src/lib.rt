@@ -57,8 +57,8 @@ pub struct Turn {
     pub store: Store,
 }
 
-// What whole instructions change of a core with cycle 1 due, but for its bank of registers, and what is left of the budget that they spend.
-// They are executed on bank and state apart, so that the bank is not copied.
+// What whole instructions change of a core with cycle 1 due, but for its bank of registers and its clock, and what is left of the budget that
+// they spend. They are executed on bank and state apart, so that none of them copies the bank.
 struct State {
     pc: u16,
     sp: u16,
@@ -599,7 +599,7 @@ impl Core {
     }
 
     // One cycle, its store made.
-    fn one_cycle(self, memory: &mut [u16]) -> Advance
+    fn advance_once(self, memory: &mut [u16]) -> Advance
         requires { ⌜ self .clock .0 < 4294967295 ⌝ }
         ensures { λ r. ⌜ reached r (now (memory .exit)) ≡ advanced (starting self (now (memory .entry))) ⌝ }
     {
@@ -614,7 +614,7 @@ impl Core {
         }
     }
 
-    // What whole instructions change of the core, but for its bank, and the budget that they have.
+    // The state that whole instructions start from, with a budget.
     fn rest(self, b: u32) -> State
         ensures { λ r. ⌜ r ≡ restOf b self ⌝ }
     {
@@ -649,7 +649,7 @@ impl Core {
         self.with_stop(stop)
     }
 
-    // At most so many whole instructions of a core with cycle 1 due, each where it is going and what is left of the budget has room for one.
+    // At most `most` whole instructions of a core with cycle 1 due, each where it is going and what is left of the budget has room for one.
     fn instructions(self, most: u32, b: u32, memory: &mut [u16]) -> Advance
         requires { ⌜ (dueOne self ≡ true) × (self .clock .0 + b ≤ 4294967295) ⌝ }
         ensures { λ r. ⌜ reached r (now (memory .exit)) ≡ instructionsOn most b (starting self (now (memory .entry))) ⌝ }
@@ -676,12 +676,12 @@ impl Core {
     {
         if LONGEST <= b {
             if self.one_due() {
-                // A copy for this call: single cycles take longer where run's own core is lent to it.
+                // A copy for this call: single cycles take longer where the compiler lends it run's own core.
                 let whole = self;
                 return whole.instructions(b, b, memory);
             }
         }
-        self.one_cycle(memory)
+        self.advance_once(memory)
     }
 
     // The hidden registers zero.
@@ -809,10 +809,10 @@ impl Core {
         let mut used = Cycles(0);
         let mut finished = Instructions(0);
         while used.0 < b && self.goes() {
-            let more = self.advance(b - used.0, memory);
-            used.0 += more.cycles.0;
-            finished.0 += more.instructions.0;
-            let next = more.core;
+            let ahead = self.advance(b - used.0, memory);
+            used.0 += ahead.cycles.0;
+            finished.0 += ahead.instructions.0;
+            let next = ahead.core;
             self = next;
         }
         self.ran(used, finished)

@@ -16,7 +16,20 @@ use Rattle.effects.specs.Effect.{toRt, toPc, toSp, loaded}
 use Rattle.effects.specs.Hidden.{withRaRb}
 use Rattle.effects.specs.Table.{jumped, executed}
 use Rattle.effects.specs.declared.Effect.{Effect}
-use Rattle.effects.specs.Theorems.{AsCycles, CyclesAgree, Idle, PastTheLast, AccessMade, StackExactly}
+use Rattle.effects.specs.Theorems.{EffectParts, HiddenParts, AsCycles, CyclesAgree, Idle, PastTheLast, AccessMade, StackExactly}
+
+pub effect-parts : EffectParts
+effect-parts v w f s x = (
+  (refl, refl, refl, refl, refl, refl),
+  (refl, refl, refl, refl, refl, refl),
+  (refl, refl, refl, refl, refl, refl),
+  (refl, refl, refl, refl, refl, refl),
+  (refl, refl, refl, refl, refl, refl),
+  (refl, refl, refl, refl, refl, refl),
+)
+
+pub hidden-parts : HiddenParts
+hidden-parts v w h = ((refl, refl, refl, refl), (refl, refl, refl, refl), (refl, refl, refl, refl))
 
 pub cycles-agree : CyclesAgree
 cycles-agree Undefined t a b register M h x e = (λ z. absurd (let n : _≡_ {A = ℕ} 0 1 = cc in omega arith), refl)

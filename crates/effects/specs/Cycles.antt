@@ -84,11 +84,11 @@ unlessStopping stop.the-variants.Undefined new old = old
 abbrev pub hiddenAfter : Stop → ℕ → ℕ → ℕ → ℕ → Hidden → Hidden
 hiddenAfter s w RA RB v h = withRalu v (withRaRb (unlessStopping s RA (h .ra)) (unlessStopping s RB (h .rb)) (withIr w h))
 
--- an instruction at once: what the table says of it, and the value that cycle 3 gives RALU, from IR, RA and RB as latched: of the values rt and
--- rb, RB takes that of the register that cycle 2 would choose
+-- an instruction at once: what it does, and what its cycles leave in RALU
 abbrev pub leaving : ℕ → Effect → Executed
 leaving RALU x = record { effect = x; ralu = RALU }
 
+-- what the table says of it, and the value that cycle 3 gives RALU, from IR, RA and RB as latched: RB takes Rt's value or Rb's, as the kind has it
 abbrev pub atOnce : Kind → ℕ → ℕ → ℕ → Hidden → List ℕ → Effect → Executed
 atOnce k w ra rb h M x =
     leaving (calculated k (withRaRb ra (secondRegister k (x .rt) rb) (withIr w h)) x .value) (executed k w ra rb M x)

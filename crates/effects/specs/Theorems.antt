@@ -1,5 +1,6 @@
--- The cycles of an instruction, taken together, do what the instruction table says; cycles past its last do nothing; cycle 4 makes the
--- access that its kind names; and what is stacked is found again. Four statements, proved in proofs/Theorems.antt.
+-- Setting a part of an effect or of the hidden registers leaves all others. The cycles of an instruction, taken together, do what the
+-- instruction table says; cycles past its last do nothing; cycle 4 makes the access that its kind names; and what is stacked is found again.
+-- Six statements, proved in proofs/Theorems.antt.
 use mathlib.Core.Path.{_≡_}
 use mathlib.Core.Logic.{_↔_}
 use mathlib.Core.List.{List}
@@ -8,21 +9,51 @@ use lib.ListN.{length}
 use Rattle.words.specs.Memory.{wordAt}
 use Rattle.isa.specs.Control.{secondRegister}
 use Rattle.isa.specs.Cost.{classOf}
+use Rattle.isa.specs.declared.Flags.{Flags}
 use Rattle.isa.specs.declared.Class.{Class}
 use Rattle.isa.specs.declared.Class.the-variants.{Stop, Short, Full}
 use Rattle.isa.specs.declared.Kind.{Kind}
 use Rattle.isa.specs.declared.Kind.the-variants.{Rts, Pop, Push, Call}
 use Rattle.isa.specs.declared.Target.{Target}
 use Rattle.alu.specs.Flags.{silent}
-use Rattle.effects.specs.Effect.{toRt, toPc, toSp, toFlags, stopping, applied}
-use Rattle.effects.specs.Hidden.{withRaRb, withRalu}
+use Rattle.effects.specs.Effect.{toRt, toPc, toSp, toFlags, stopping, storing, applied}
+use Rattle.effects.specs.Hidden.{withIr, withRaRb, withRalu}
 use Rattle.effects.specs.Access.{Access, none, read, write, accessOf, addressOf}
 use Rattle.effects.specs.Table.{executed}
 use Rattle.effects.specs.Cycles.{stopOf, calculated, writtenBack}
 use Rattle.effects.specs.declared.Effect.{Effect}
 use Rattle.effects.specs.declared.Hidden.{Hidden}
+use Rattle.effects.specs.declared.Store.{Store}
 use Rattle.effects.specs.declared.Store.the-variants.{Nothing, Word}
+use Rattle.effects.specs.declared.Stop as stop
 use Rattle.effects.specs.declared.Stop.the-variants.{Going}
+
+-- an effect with these parts
+abbrev pub EffectHas : ℕ → ℕ → ℕ → Flags → stop.Stop → Store → Effect → Type 0
+EffectHas rt pc sp flags stop store x =
+    (x .rt ≡ rt) × (x .pc ≡ pc) × (x .sp ≡ sp) × (x .flags ≡ flags) × (x .stop ≡ stop) × (x .store ≡ store)
+
+-- each setter of Effect sets its part and leaves all others (proved as `effect-parts`)
+abbrev pub EffectParts : Type 0
+EffectParts =
+    (v w : ℕ) (f : Flags) (s : stop.Stop) (x : Effect)
+    → EffectHas v (x .pc) (x .sp) (x .flags) (x .stop) (x .store) (toRt v x)
+    × EffectHas (x .rt) v (x .sp) (x .flags) (x .stop) (x .store) (toPc v x)
+    × EffectHas (x .rt) (x .pc) v (x .flags) (x .stop) (x .store) (toSp v x)
+    × EffectHas (x .rt) (x .pc) (x .sp) f (x .stop) (x .store) (toFlags f x)
+    × EffectHas (x .rt) (x .pc) (x .sp) (x .flags) s (x .store) (stopping s x)
+    × EffectHas (x .rt) (x .pc) (x .sp) (x .flags) (x .stop) (Word v w) (storing v w x)
+
+-- hidden registers with these parts; and each setter of Hidden sets its own and leaves all others (proved as `hidden-parts`)
+abbrev pub HiddenHas : ℕ → ℕ → ℕ → ℕ → Hidden → Type 0
+HiddenHas IR RA RB RALU h = (h .ir ≡ IR) × (h .ra ≡ RA) × (h .rb ≡ RB) × (h .ralu ≡ RALU)
+
+abbrev pub HiddenParts : Type 0
+HiddenParts =
+    (v w : ℕ) (h : Hidden)
+    → HiddenHas v (h .ra) (h .rb) (h .ralu) (withIr v h)
+    × HiddenHas (h .ir) v w (h .ralu) (withRaRb v w h)
+    × HiddenHas (h .ir) (h .ra) (h .rb) v (withRalu v h)
 
 -- `whole` is what the table says of the instruction. By its class: of 2 cycles, cycle 2 stops, and the table does just that; of 3, cycle 2
 -- does not stop, cycle 3 leaves the flags, and the table changes nothing; of 4, cycle 2 does not stop, and the table does what cycle 4

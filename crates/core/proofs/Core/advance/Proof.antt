@@ -19,7 +19,7 @@ returns c =
 
 returns-2 : tie.Need-returns-2
 returns-2 c =
-    c .before .before .one-cycle .ensures
+    c .before .before .advance-once .ensures
     ∙ ⊎-elim
     (λ w. sym (rw (le-leb 4 _ (w .0 .taken), sym (w .1 .ensures) ∙ w .2 .left)))
     (λ w. sym (rw (lt-leb 4 _ (w .left))))
