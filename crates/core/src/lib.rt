@@ -581,7 +581,8 @@ impl Core {
     pub fn cycle(self, memory: &[u16]) -> Turn
         ensures { λ r. ⌜ r ≡ oneCycle (now (memory .entry)) self ⌝ }
     {
-        if 4294967295 <= self.clock.0 {
+        let clock = self.clock;
+        if clock_full(clock, 1) {
             return self.idle();
         }
         self.due_cycle(memory)

@@ -1,25 +1,26 @@
 -- `core::Core::cycle` meets its contract: by whether the clock is full. Assumes nothing.
 use mathlib.Core.Path.{sym, _∙_}
+use Prim.Native.Nat.{_+_}
+use native.Mathlib.Omega.{arith}
 use borrow.Author.Needs.{needs}
-use Rattle.core.proofs.Cycles.{within-clock, full-clock}
+use borrow.Author.Tests.{ltb-false}
+use Rattle.core.specs.Datapath.{oneCycle}
 use Rattle.core.proofs.Core.cycle.Statement.{statement}
 use Rattle.core.proofs.Core.cycle.Tie as tie
 
 returns : tie.Need-returns
-returns c =
-    let a = c .before .before .before .before .args in
-    c .idle .ensures ∙ sym (full-clock (a .memory .now) (a .self) (c .before .if1 .taken))
+unfolding oneCycle
+returns c = c .idle .ensures ∙ sym (rw (sym (c .before .before .clock-full .ensures) ∙ c .before .if1 .taken))
+
+due-cycle-requires : tie.Need-due-cycle-requires
+due-cycle-requires c κs =
+    let clock = c .before .before .before .before .args .self .clock .0 in
+    omega (arith, ltb-false 4294967295 (clock + 1) (sym (c .before .clock-full .ensures) ∙ c .if1 .left))
 
 returns-2 : tie.Need-returns-2
-returns-2 c =
-    let a = c .before .before .before .before .args in
-    c .due-cycle .ensures ∙ sym (within-clock (a .memory .now) (a .self) (c .before .if1 .left))
+unfolding oneCycle
+returns-2 c = c .due-cycle .ensures ∙ sym (rw (sym (c .before .before .clock-full .ensures) ∙ c .before .if1 .left))
 
 pub cycle-spec : {M : Type 1} → statement M
 cycle-spec =
-    tie.close
-    (tie.spec
-    (λ c κs. search needs)
-    returns
-    (λ c κs. search needs)
-    returns-2)
+    tie.close (tie.spec (λ c κs. search needs) (λ c κs. search needs) returns due-cycle-requires returns-2)
