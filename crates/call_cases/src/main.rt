@@ -40,7 +40,7 @@ fn print_ran(answer: RunAnswer) {
             print_number(b" instructions ", instructions.0 as u64);
             print(&[b' ', b'e', b'n', b'd', b' ', text::letter(end)]);
         }
-        RunAnswer::Refused(why) => print_number(b": refused ", text::refusal_number(why) as u64),
+        RunAnswer::Refused(why) => print_number(b": refused ", refusals::number(why) as u64),
     }
 }
 
@@ -60,10 +60,10 @@ fn show_load(name: &[u8], core: Core, listing: &[u8], memory: &mut [u16]) {
     match answer {
         LoadAnswer::Stored(count) => print_number(b": stored ", count as u64),
         LoadAnswer::Faulty(fault, offset) => {
-            print_number(b": refused ", text::fault_number(fault) as u64);
+            print_number(b": refused ", listing::fault_number(fault) as u64);
             print_number(b" at ", offset as u64);
         }
-        LoadAnswer::Refused(why) => print_number(b": refused ", text::refusal_number(why) as u64),
+        LoadAnswer::Refused(why) => print_number(b": refused ", refusals::number(why) as u64),
     }
     print_core(reply.core);
 }
@@ -75,7 +75,7 @@ fn show_view(name: &[u8], core: Core) {
     print(name);
     match answer {
         ViewAnswer::Viewed => print(b": viewed"),
-        ViewAnswer::Refused(why) => print_number(b": refused ", text::refusal_number(why) as u64),
+        ViewAnswer::Refused(why) => print_number(b": refused ", refusals::number(why) as u64),
     }
     print_word(b", shows PC ", shown.pc);
     print_number(b" clock ", shown.clock.0 as u64);

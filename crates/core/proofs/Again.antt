@@ -11,7 +11,8 @@ use Rattle.effects.specs.declared.Stop.{Stop}
 use Rattle.effects.specs.declared.Stop.the-variants.{Going, Halted, Undefined}
 use Rattle.core.specs.Datapath.{cycled}
 use Rattle.core.specs.Spent.{dueOne, dueInRange}
-use Rattle.core.specs.Numbers.{wrongLength, isGoing, clockFull, runNumber}
+use Rattle.refusals.specs.Refusals.{wrongLength}
+use Rattle.core.specs.Numbers.{isGoing, clockFull, runNumber}
 use Rattle.core.specs.Calls.{Progress, advanced, cyclesOn, starting, ranReply, endOf, run}
 use Rattle.core.specs.TheoremsOfCalls.{RunAgain}
 use Rattle.core.specs.declared.Core.{Core}
@@ -19,7 +20,8 @@ use Rattle.core.proofs.Cycles.{one-more, none-more, no-cycle, cycles-ad
 use Rattle.core.proofs.Endings.{budget, clock-moves, cycle-ticks}
 use Rattle.core.proofs.Refusals.{ready}
 use Rattle.core.proofs.Taken.{no-run-number, reply-own}
-use Rattle.core.proofs.Replies.{passed, none-left, applied-length}
+use Rattle.refusals.proofs.First.{passed, none-left}
+use Rattle.core.proofs.Replies.{applied-length}
 
 -- cycles leave one of 1 to 4 due, and the memory's length
 pub due-stays : (n : ℕ) (p : Progress) → dueInRange (p .core) ≡ true → dueInRange (cyclesOn n p .core) ≡ true

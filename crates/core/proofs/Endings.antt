@@ -23,7 +23,7 @@ use Rattle.core.specs.declared.Core.{Core}
 use Rattle.core.specs.declared.End.{End}
 use Rattle.core.specs.declared.End.the-variants.{H, U, B, M}
 use Rattle.core.proofs.Spent.{due-when-one, one-when-due, due-when, range-when}
-use Rattle.core.proofs.Refusals.{clash}
+use Rattle.refusals.proofs.First.{clash}
 use Rattle.core.proofs.Cycles.{first-cycle, later, second-cycle, third-cycle, fourth-cycle, second-keeps, no-cycle, one-more, none-more, cost-of-range}
 
 neither : {P Q : Type 0} → (P → ⊥) → (Q → ⊥) → P ↔ Q

@@ -9,71 +9,23 @@ use native.Mathlib.Omega.{arith}
 use borrow.Author.Tests.{ltb-true, ltb-false, leb-true, leb-false, eqb-true, eqb-false, lt-ltb, not-true, not-false}
 use lib.Dec.{eqb, ltb, leb}
 use lib.ListN.{length}
+use Rattle.refusals.specs.Refusals.{wrongLength}
+use Rattle.refusals.specs.Theorems.{Means, Mean}
+use Rattle.refusals.proofs.First.{clash, no-more, more, first-exactly, none-applies, length-exactly}
 use Rattle.listing.specs.Answers as listing
 use Rattle.listing.specs.Listing.{listingAnswer}
 use Rattle.listing.proofs.Theorems.{refused-unchanged as listing-unchanged}
 use Rattle.effects.specs.declared.Stop.{Stop}
 use Rattle.effects.specs.declared.Stop.the-variants.{Going, Halted, Undefined}
 use Rattle.core.specs.Spent.{dueOne, dueInRange}
-use Rattle.core.specs.Numbers.{wrongLength, isGoing, clockFull, firstNumber, loadNumber, runNumber, stepNumber, viewNumber}
+use Rattle.core.specs.Numbers.{isGoing, clockFull, loadNumber, runNumber, stepNumber, viewNumber}
 use Rattle.core.specs.Calls.{Answer, refusedAt, stored, ran, viewed, refused, Reply, unless, loadAnswer, loadedReply, viewedReply, ranReply, steppedReply, cyclesOn, starting, reset, load, view, run, step}
-use Rattle.core.specs.TheoremsOfCalls.{First, Taken, loadNumbers, runNumbers, stepNumbers, viewNumbers, NumbersExactly, RefusalsUnchanged}
+use Rattle.core.specs.TheoremsOfCalls.{loadNumbers, runNumbers, stepNumbers, viewNumbers, NumbersExactly, RefusalsUnchanged}
 use Rattle.core.specs.State.{Visible, visibleOf}
 use Rattle.core.specs.Instruction.{takes, instructed}
 use Rattle.core.specs.declared.Core.{Core}
 use Rattle.core.specs.declared.End.{End}
 use Rattle.core.proofs.Spent.{due-when-one, one-when-due}
-
--- a test means a statement
-abbrev Means : Bool → Type 0 → Type 0
-Means test P = (test ≡ true → P) × (test ≡ false → P → ⊥)
-
-pub clash : {b : Bool} → b ≡ true → b ≡ false → ⊥
-clash t f = let z : _≡_ {A = ℕ} 0 1 = cc in omega arith
-
--- the first number of a list that applies, one at a time
-ends-first : (n : ℕ) → (firstNumber [] ≡ n) × (n ≡ 0 → ⊥) → ⊥
-unfolding firstNumber
-ends-first n (e, z) = z (sym e)
-
--- the numbers found by a list of tests are those that apply
-pub Found : ℕ → List (ℕ × Bool) → List (ℕ × Type 0) → Type 0
-Found n tests numbers = ((firstNumber tests ≡ n) × (n ≡ 0 → ⊥)) ↔ First n numbers
-
-none : (n : ℕ) → Found n [] []
-unfolding Found firstNumber
-none n = (λ h. h .1 (sym (h .0)), λ z. absurd z)
-
-one : (n k : ℕ) (test : Bool) (P : Type 0) (tests : List (ℕ × Bool)) (numbers : List (ℕ × Type 0)) → (k ≡ 0 → ⊥) → Means test P
-    → Found n tests numbers → Found n ((k, test) ∷ tests) ((k, P) ∷ numbers)
-unfolding Found firstNumber
-one n k true P tests numbers nonzero means rest = (λ h. inl (means .0 refl, sym (h .0)), from)
-  where
-    from : (P × (n ≡ k)) ⊎ ((P → ⊥) × First n numbers) → (k ≡ n) × (n ≡ 0 → ⊥)
-    from (inl h) = (sym (h .1), λ z. nonzero (sym (h .1) ∙ z))
-    from (inr h) = absurd (h .0 (means .0 refl))
-one n k false P tests numbers nonzero means rest = (λ h. inr (means .1 refl, rest .0 h), from)
-  where
-    from : (P × (n ≡ k)) ⊎ ((P → ⊥) × First n numbers) → (firstNumber tests ≡ n) × (n ≡ 0 → ⊥)
-    from (inl h) = absurd (means .1 refl (h .0))
-    from (inr h) = rest .1 (h .1)
-
--- where no number applies, the list finds none
-pub none-found : (tests : List (ℕ × Bool)) (numbers : List (ℕ × Type 0)) → ((n : ℕ) → Found n tests numbers) → Taken numbers
-    → firstNumber tests ≡ 0
-unfolding Found
-none-found tests numbers found taken = by (eqb (firstNumber tests) 0) refl
-  where
-    by : (b : Bool) → eqb (firstNumber tests) 0 ≡ b → firstNumber tests ≡ 0
-    by true h = eqb-true (firstNumber tests) 0 h
-    by false h = absurd (taken (firstNumber tests) (found (firstNumber tests) .0 (refl, eqb-false (firstNumber tests) 0 h)))
-
--- and then the first does not apply, and none of the others
-pub none-applies : (n : ℕ) (applies : Bool) (rest : List (ℕ × Bool)) → firstNumber ((suc n, applies) ∷ rest) ≡ 0
-    → (applies ≡ false) × (firstNumber rest ≡ 0)
-unfolding firstNumber
-none-applies n true rest e = absurd (omega arith)
-none-applies n false rest e = (refl, e)
 
 -- a run that no number refuses, or a step with 4 for b
 pub record Ready (L : ℕ) (stop : Stop) (dueRight : Bool) (clock b : ℕ) : Type 0 where
@@ -98,18 +50,6 @@ ready L stop dueRight clock b e =
     }
 
 -- what the tests mean
-length-by : (L : ℕ) (zero long : Bool) → eqb L 0 ≡ zero → ltb 65536 L ≡ long → Means (cond zero true long) ((L ≡ 0) ⊎ (65536 < L))
-length-by L true long z l = (λ _. inl (eqb-true L 0 z), λ e. absurd (clash refl e))
-length-by L false true z l = (λ _. inr (ltb-true 65536 L l), λ e. absurd (clash refl e))
-length-by L false false z l = (λ e. absurd (clash e refl), λ _. no)
-  where
-    no : (L ≡ 0) ⊎ (65536 < L) → ⊥
-    no (inl h) = eqb-false L 0 z h
-    no (inr h) = clash (lt-ltb 65536 L h) l
-
-length-means : (L : ℕ) → Means (wrongLength L) ((L ≡ 0) ⊎ (65536 < L))
-length-means L = length-by L (eqb L 0) (ltb 65536 L) refl refl
-
 stop-means : (s : Stop) → Means (not (isGoing s)) (s ≡ Going → ⊥)
 stop-means Going = (λ e. absurd (clash e refl), λ e n. n refl)
 stop-means Halted = (λ e g. let z : _≡_ {A = ℕ} 0 1 = cc in omega arith, λ e. absurd (clash refl e))
@@ -179,49 +119,47 @@ both : {A B C : Type 0} → A ↔ B → B ↔ C → A ↔ C
 both p q = (λ a. q .0 (p .0 a), λ c. p .1 (q .1 c))
 
 -- the tests of each call, in their order
-module _ (core : Core) (memory : List ℕ) (n : ℕ) where
-  pub load-found : Found n ((1, wrongLength (length memory)) ∷ (7, not (dueOne core)) ∷ []) (loadNumbers core memory)
-  load-found =
-      one n 1 _ _ _ _ (λ e. omega arith) (length-means (length memory))
-      (one n 7 _ _ _ _ (λ e. omega arith) (one-means core) (none n))
+module _ (core : Core) (memory : List ℕ) where
+  pub load-mean : Mean ((1, wrongLength (length memory)) ∷ (7, not (dueOne core)) ∷ []) (loadNumbers core memory)
+  load-mean = more 1 _ _ _ _ (λ e. omega arith) (length-exactly (length memory)) (more 7 _ _ _ _ (λ e. omega arith) (one-means core) no-more)
 
-  pub run-found : (b : ℕ)
-      → Found n
+  pub run-mean : (b : ℕ)
+      → Mean
       ((1, wrongLength (length memory))
       ∷ (8, not (isGoing (core .stop)))
       ∷ (7, not (dueInRange core))
       ∷ (9, clockFull (core .clock .0) b)
       ∷ [])
       (runNumbers b core memory)
-  run-found b =
-      one n 1 _ _ _ _ (λ e. omega arith) (length-means (length memory))
-      (one n 8 _ _ _ _ (λ e. omega arith) (stop-means (core .stop))
-      (one n 7 _ _ _ _ (λ e. omega arith) (range-means core)
-      (one n 9 _ _ _ _ (λ e. omega arith) (clock-means (core .clock .0) b) (none n))))
+  run-mean b =
+      more 1 _ _ _ _ (λ e. omega arith) (length-exactly (length memory))
+      (more 8 _ _ _ _ (λ e. omega arith) (stop-means (core .stop))
+      (more 7 _ _ _ _ (λ e. omega arith) (range-means core)
+      (more 9 _ _ _ _ (λ e. omega arith) (clock-means (core .clock .0) b) no-more)))
 
-  pub step-found : Found n
+  pub step-mean : Mean
       ((1, wrongLength (length memory))
       ∷ (8, not (isGoing (core .stop)))
       ∷ (7, not (dueOne core))
       ∷ (9, clockFull (core .clock .0) 4)
       ∷ [])
       (stepNumbers core memory)
-  step-found =
-      one n 1 _ _ _ _ (λ e. omega arith) (length-means (length memory))
-      (one n 8 _ _ _ _ (λ e. omega arith) (stop-means (core .stop))
-      (one n 7 _ _ _ _ (λ e. omega arith) (one-means core)
-      (one n 9 _ _ _ _ (λ e. omega arith) (clock-means (core .clock .0) 4) (none n))))
+  step-mean =
+      more 1 _ _ _ _ (λ e. omega arith) (length-exactly (length memory))
+      (more 8 _ _ _ _ (λ e. omega arith) (stop-means (core .stop))
+      (more 7 _ _ _ _ (λ e. omega arith) (one-means core)
+      (more 9 _ _ _ _ (λ e. omega arith) (clock-means (core .clock .0) 4) no-more)))
 
-  pub view-found : Found n ((7, not (dueOne core)) ∷ []) (viewNumbers core)
-  view-found = one n 7 _ _ _ _ (λ e. omega arith) (one-means core) (none n)
+  pub view-mean : Mean ((7, not (dueOne core)) ∷ []) (viewNumbers core)
+  view-mean = more 7 _ _ _ _ (λ e. omega arith) (one-means core) no-more
 
 pub numbers-exactly : NumbersExactly
-unfolding loadNumber runNumber stepNumber viewNumber load run step view reset Found
+unfolding loadNumber runNumber stepNumber viewNumber load run step view reset
 numbers-exactly core memory n b text = (
-  both (refusal n _ core memory _ (load-never n (listingAnswer text (length memory)))) (load-found core memory n),
-  both (refusal n _ core memory _ (ran-never n _ _ _)) (run-found core memory n b),
-  both (refusal n _ core memory _ (ran-never n _ _ _)) (step-found core memory n),
-  both (refusal n _ core memory _ (viewed-never n _ _ _)) (view-found core memory n),
+  both (refusal n _ core memory _ (load-never n (listingAnswer text (length memory)))) (first-exactly _ _ (load-mean core memory) n),
+  both (refusal n _ core memory _ (ran-never n _ _ _)) (first-exactly _ _ (run-mean core memory b) n),
+  both (refusal n _ core memory _ (ran-never n _ _ _)) (first-exactly _ _ (step-mean core memory) n),
+  both (refusal n _ core memory _ (viewed-never n _ _ _)) (first-exactly _ _ (view-mean core memory) n),
   λ e. let z : _≡_ {A = ℕ} 0 1 = cc in omega arith,
 )
 

@@ -1,55 +1,35 @@
--- Laws for the code of the calls: the number that tests find in their order, the reply that a number makes, and a turn of a run's loop.
+-- Laws for the code of the calls: the reply that a number makes, and a turn of a run's loop.
 use mathlib.Core.Path.{_≡_, refl, sym, ap, _∙_}
 use mathlib.Core.Bool.{Bool, true, false, cond, not}
 use mathlib.Core.List.{List, [], _∷_}
-use borrow.Author.Tests.{not-false}
+use borrow.Author.Tests.{ne-eqb, not-false}
 use Prim.Native.Nat.{ℕ, _-_, _≤_}
 use native.Mathlib.Omega.{arith}
 use lib.Dec.{lit≤}
 use lib.ListN.{length, length-set}
 use Rattle.words.specs.Arithmetic.{bit}
+use Rattle.refusals.specs.Refusals.{refusalNumber, firstNumber}
+use Rattle.refusals.specs.declared.Refusal.{Refusal}
+use Rattle.refusals.proofs.First.{passed, none-left, none-applies, has-number}
 use Rattle.effects.specs.Effect.{applied}
 use Rattle.effects.specs.declared.Store.{Store}
 use Rattle.effects.specs.declared.Store.the-variants.{Nothing, Word}
 use Rattle.core.specs.State.{visibleOf}
 use Rattle.core.specs.Instruction.{takes, instructed}
 use Rattle.core.specs.Spent.{dueOne, dueInRange}
-use Rattle.core.specs.Numbers.{firstNumber, runNumber, stepNumber, viewNumber}
+use Rattle.core.specs.Numbers.{runNumber, stepNumber, viewNumber}
 use Rattle.core.specs.Calls.{refused, Reply, unless, Progress, cyclesOn, starting, ranReply, steppedReply, viewedReply, run, step, view}
-use Rattle.core.specs.Answers.{refusalNumber}
 use Rattle.core.specs.declared.Core.{Core}
-use Rattle.core.specs.declared.Refusal.{Refusal}
-use Rattle.core.specs.declared.Refusal.the-variants.{WrongLength, WrongCycle, Stopped, ClockFull}
 use Rattle.core.proofs.Cycles.{no-cycle}
-use Rattle.core.proofs.Refusals.{none-applies}
 use Rattle.core.proofs.Taken.{reply-own}
-
--- the first test of some that holds, the first that does not, and none
-pub found : (n : ℕ) (applies : Bool) (rest : List (ℕ × Bool)) → applies ≡ true → firstNumber ((n, applies) ∷ rest) ≡ n
-unfolding firstNumber
-found n applies rest e = ap (λ (b : Bool). cond b n (firstNumber rest)) e
-
-pub passed : (n : ℕ) (applies : Bool) (rest : List (ℕ × Bool)) → applies ≡ false
-    → firstNumber ((n, applies) ∷ rest) ≡ firstNumber rest
-unfolding firstNumber
-passed n applies rest e = ap (λ (b : Bool). cond b n (firstNumber rest)) e
-
-pub none-left : firstNumber [] ≡ 0
-unfolding firstNumber
-none-left = refl
 
 -- a number makes a refusal of a reply, and 0 leaves it
 pub refused-reply : (number : ℕ) (why : Refusal) (core : Core) (memory : List ℕ) (reply : Reply) → refusalNumber why ≡ number
     → record { answer = refused (refusalNumber why); core = core; memory = memory } ≡ unless number core memory reply
-refused-reply number why core memory reply e = by why ∙ ap (λ (n : ℕ). unless n core memory reply) e
-  where
-    by : (why : Refusal)
-        → record { answer = refused (refusalNumber why); core = core; memory = memory }
-        ≡ unless (refusalNumber why) core memory reply
-    by WrongLength = refl
-    by WrongCycle = refl
-    by Stopped = refl
-    by ClockFull = refl
+refused-reply number why core memory reply e =
+    let nonzero = ne-eqb (refusalNumber why) 0 (has-number why) in
+    sym (ap (λ (zero : Bool). cond zero reply (record { answer = refused (refusalNumber why); core = core; memory = memory })) nonzero)
+    ∙ ap (λ (n : ℕ). unless n core memory reply) e
 
 -- where a run or a step starts: with its numbers passed the reply is the call's own
 pub run-starts : (b : ℕ) (core : Core) (memory : List ℕ)
@@ -87,10 +67,7 @@ one-when one e = not-false one (none-applies 6 (not one) [] e .0)
 pub other-when : (one : Bool) (why : Refusal) → refusalNumber why ≡ viewNumber one → one ≡ false
 unfolding viewNumber firstNumber
 other-when false why e = refl
-other-when true WrongLength e = absurd (omega arith)
-other-when true WrongCycle e = absurd (omega arith)
-other-when true Stopped e = absurd (omega arith)
-other-when true ClockFull e = absurd (omega arith)
+other-when true why e = absurd (has-number why e)
 
 -- a view that is taken
 pub view-taken : (core : Core) → dueOne core ≡ true → viewedReply core ≡ view core

@@ -9,6 +9,9 @@ use native.Mathlib.Omega.{arith}
 use native.Mathlib.Nat.{zero-add, add-zero}
 use borrow.Author.Tests.{eq-eqb, le-ltb, not-false}
 use lib.ListN.{length}
+use Rattle.refusals.specs.Refusals.{firstNumber}
+use Rattle.refusals.specs.Theorems.{Taken}
+use Rattle.refusals.proofs.First.{none-found, none-applies}
 use Rattle.effects.specs.declared.Stop.the-variants.{Going}
 use Rattle.effects.specs.Hidden.{noHidden}
 use Rattle.core.specs.State.{withHidden, visibleOf}
@@ -16,15 +19,15 @@ use Rattle.core.specs.Spent.{dueOne, dueInRange}
 use Rattle.core.specs.Instruction.{after, memoryAfter, takes, coreAfter, instructed}
 use Rattle.core.specs.AtOnce.{pastOne}
 use Rattle.core.specs.Datapath.{idle, cycled, oneCycle}
-use Rattle.core.specs.Numbers.{isGoing, clockFull, firstNumber, loadNumber, runNumber, stepNumber, viewNumber}
+use Rattle.core.specs.Numbers.{isGoing, clockFull, loadNumber, runNumber, stepNumber, viewNumber}
 use Rattle.core.specs.Calls.{ran, viewed, Progress, advancedBy, advanced, cyclesOn, starting, endOf, Reply, unless, loadAnswer, loadedReply, viewedReply, ranReply, steppedReply, reset, load, view, run, step}
-use Rattle.core.specs.TheoremsOfCalls.{Taken, loadNumbers, runNumbers, stepNumbers, viewNumbers, RunTaken, CycleExactly, StepTaken, OthersTaken}
+use Rattle.core.specs.TheoremsOfCalls.{loadNumbers, runNumbers, stepNumbers, viewNumbers, RunTaken, CycleExactly, StepTaken, OthersTaken}
 use Rattle.core.specs.declared.Core.{Core}
 use Rattle.core.specs.declared.Turn.{Turn}
 use Rattle.core.proofs.Spent.{due-when-one, range-when-one}
 use Rattle.core.proofs.Cycles.{later, no-cycle-due, within-clock, full-clock, one-more, no-cycle, only-going, cost-range}
 use Rattle.core.proofs.OneInstruction.{one-instruction, one-finished}
-use Rattle.core.proofs.Refusals.{none-found, none-applies, Ready, ready, load-found, run-found, step-found, view-found}
+use Rattle.core.proofs.Refusals.{Ready, ready, load-mean, run-mean, step-mean, view-mean}
 use Rattle.core.proofs.Endings.{letter, budget, clock-moves}
 
 pub reply-own : (number : ℕ) (core : Core) (memory : List ℕ) (reply : Reply) → number ≡ 0 → unless number core memory reply ≡ reply
@@ -33,7 +36,7 @@ reply-own number core memory reply e = rw (eq-eqb number 0 e)
 module _ (core : Core) (memory : List ℕ) (b : ℕ) (taken : Taken (runNumbers b core memory)) where
   pub no-run-number : runNumber (length memory) (core .stop) (dueInRange core) (core .clock .0) b ≡ 0
   unfolding runNumber
-  no-run-number = none-found _ (runNumbers b core memory) (λ n. run-found core memory n b) taken
+  no-run-number = none-found _ (runNumbers b core memory) (run-mean core memory b) taken
 
   run-own : run b core memory ≡ ranReply (cyclesOn b (starting core memory))
   unfolding run
@@ -95,7 +98,7 @@ cycle-exactly core memory = (
 module _ (core : Core) (memory : List ℕ) (taken : Taken (stepNumbers core memory)) where
   no-step-number : stepNumber (length memory) (core .stop) (dueOne core) (core .clock .0) ≡ 0
   unfolding stepNumber runNumber
-  no-step-number = none-found _ (stepNumbers core memory) (λ n. step-found core memory n) taken
+  no-step-number = none-found _ (stepNumbers core memory) (step-mean core memory) taken
 
   step-own : step core memory ≡ steppedReply (takes memory (visibleOf core)) (instructed memory core) memory
   unfolding step
@@ -154,14 +157,14 @@ step-taken core memory taken =
 pub others-taken : OthersTaken
 unfolding load loadNumber view viewNumber reset
 others-taken core memory text = (
-  λ taken. let none = none-found _ (loadNumbers core memory) (load-found core memory) taken in
+  λ taken. let none = none-found _ (loadNumbers core memory) (load-mean core memory) taken in
       let own = reply-own _ core memory (loadedReply text core memory) none in (
         λ count e. ap (λ (r : Reply). r .answer) own ∙ ap loadAnswer e,
         λ number offset e. ap (λ (r : Reply). r .answer) own ∙ ap loadAnswer e,
         ap (λ (r : Reply). r .memory) own,
         ap (λ (r : Reply). r .core) own,
       ),
-  λ taken. let none = none-found _ (viewNumbers core) (view-found core memory) taken in
+  λ taken. let none = none-found _ (viewNumbers core) (view-mean core memory) taken in
       let own = reply-own _ core memory (viewedReply core memory) none in
       let due = due-when-one core (not-false (dueOne core) (none-applies 6 (not (dueOne core)) [] none .0)) in (
         ap (λ (r : Reply). r .answer) own ∙ ap (λ (n : ℕ). viewed (visibleOf core) n (core .clock .0)) due,

@@ -1,14 +1,11 @@
 -- What the code of the calls gives back, read as the answers and replies of Calls: document 01's number and values for each case.
 use mathlib.Core.List.{List}
 use Prim.Native.Nat.{ℕ}
+use Rattle.refusals.specs.Refusals.{refusalNumber}
 use Rattle.listing.specs.Answers.{faultNumber}
 use Rattle.core.specs.State.{visible}
 use Rattle.core.specs.Calls.{Answer, done, stored, ran, viewed, refused, refusedAt, Reply}
 use Rattle.core.specs.declared.Core.{Core}
-use Rattle.core.specs.declared.Refusal.{Refusal}
-use Rattle.core.specs.declared.Refusal.the-variants as refusal
-use Rattle.core.specs.declared.Verdict.{Verdict}
-use Rattle.core.specs.declared.Verdict.the-variants as verdict
 use Rattle.core.specs.declared.LoadAnswer.{LoadAnswer}
 use Rattle.core.specs.declared.LoadAnswer.the-variants as loading
 use Rattle.core.specs.declared.RunAnswer.{RunAnswer}
@@ -19,19 +16,6 @@ use Rattle.core.specs.declared.LoadReply.{LoadReply}
 use Rattle.core.specs.declared.RunReply.{RunReply}
 use Rattle.core.specs.declared.ViewReply.{ViewReply}
 use Rattle.core.specs.declared.Snapshot.{Snapshot}
-
--- '1: L is 0 or above 65,536 ..', '7: cycle due is not 1 .., or outside 1 to 4 ..', '8: stopped ..', '9: clock plus b .. exceeds
--- 4,294,967,295'
-abbrev pub refusalNumber : Refusal → ℕ
-refusalNumber refusal.WrongLength = 1
-refusalNumber refusal.WrongCycle = 7
-refusalNumber refusal.Stopped = 8
-refusalNumber refusal.ClockFull = 9
-
--- what is found before a call starts; 0 where it is taken
-abbrev pub verdictNumber : Verdict → ℕ
-verdictNumber verdict.Taken = 0
-verdictNumber (verdict.Refused why) = refusalNumber why
 
 -- the answers
 abbrev pub loadAnswerOf : LoadAnswer → Answer

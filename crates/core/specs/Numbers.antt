@@ -1,14 +1,11 @@
--- Document 01, 'Numbers from the input' and 'Numbers from the state': 1, 7, 8 and 9, and their order.
-use mathlib.Core.Bool.{Bool, true, false, cond, not}
-use mathlib.Core.List.{List, [], _∷_}
+-- Document 01, 'Numbers from the input' and 'Numbers from the state': when 7, 8 and 9 apply (1 is of `refusals`), and the order of each call.
+use mathlib.Core.Bool.{Bool, true, false, not}
+use mathlib.Core.List.{[], _∷_}
 use Prim.Native.Nat.{ℕ, _+_}
-use lib.Dec.{eqb, ltb}
+use lib.Dec.{ltb}
+use Rattle.refusals.specs.Refusals.{wrongLength, firstNumber}
 use Rattle.effects.specs.declared.Stop.{Stop}
 use Rattle.effects.specs.declared.Stop.the-variants.{Going, Halted, Undefined}
-
--- '1: L is 0 or above 65,536'
-abbrev pub wrongLength : ℕ → Bool
-wrongLength L = cond (eqb L 0) true (ltb 65536 L)
 
 -- '8: stopped', that is, not going
 abbrev pub isGoing : Stop → Bool
@@ -23,11 +20,6 @@ longest = 4
 -- '9: clock plus b, or plus 4 for a step, exceeds 4,294,967,295'
 abbrev pub clockFull : ℕ → ℕ → Bool
 clockFull clock b = ltb 4294967295 (clock + b)
-
--- the first number that applies; 0, which is no number, where none does and the call is taken
-unfoldable pub firstNumber : List (ℕ × Bool) → ℕ
-firstNumber [] = 0
-firstNumber (x ∷ rest) = cond (x .1) (x .0) (firstNumber rest)
 
 -- 'Order: load 1, 7, lines; run and step 1, 8, 7, 9; view only 7.' '7: cycle due is not 1 (load, view, step), or outside 1 to 4
 -- (run)': `dueRight` is whether it is one that the call takes

@@ -7,6 +7,7 @@ use mathlib.Core.Bool.{false}
 use mathlib.Core.List.{List, [], _∷_}
 use Prim.Native.Nat.{ℕ, _+_, _≤_, _<_}
 use lib.ListN.{length}
+use Rattle.refusals.specs.Theorems.{First, Taken}
 use Rattle.listing.specs.Answers as listing
 use Rattle.listing.specs.Listing.{listingAnswer, listingMemory}
 use Rattle.effects.specs.declared.Stop.the-variants.{Going, Halted, Undefined}
@@ -19,11 +20,6 @@ use Rattle.core.specs.Datapath.{cycled, oneCycle}
 use Rattle.core.specs.declared.Core.{Core}
 use Rattle.core.specs.declared.End.{End}
 use Rattle.core.specs.declared.End.the-variants.{H, U, B, M}
-
--- of some numbers in their order, n is the first that applies
-abbrev pub First : ℕ → List (ℕ × Type 0) → Type 0
-First n [] = ⊥
-First n (x ∷ rest) = ((x .1) × (n ≡ x .0)) ⊎ ((x .1 → ⊥) × First n rest)
 
 -- '1: L is 0 or above 65,536'; '8: stopped'; '7: cycle due is not 1'
 abbrev pub WrongLength : List ℕ → Type 0
@@ -89,10 +85,6 @@ Letter end core =
     × ((end ≡ U) ↔ (core .stop ≡ Undefined))
     × ((end ≡ B) ↔ ((core .stop ≡ Going) × OneDue core))
     × ((end ≡ M) ↔ ((core .stop ≡ Going) × NotOneDue core))
-
--- none of these numbers applies: the call is taken (a load then comes to its lines, which may still refuse it)
-abbrev pub Taken : List (ℕ × Type 0) → Type 0
-Taken numbers = (n : ℕ) → First n numbers → ⊥
 
 -- a run that is taken answers the cycles used, which are its budget, 'fewer if the core stops', and the letter of the core that it hands
 -- back, whose clock has moved by what was used; how instructions are counted is said by `OneInstruction` and `ForeignCore` of Theorems (proved

@@ -7,6 +7,7 @@ ghost use Prim.Native.Nat.{_+_, _≤_, _<_};
 ghost use lib.Dec.{ltb};
 ghost use lib.ListN.{set};
 ghost use Rattle.words.specs.Arithmetic.{bit};
+ghost use Rattle.refusals.specs.Refusals.{refusalNumber, verdictNumber};
 ghost use Rattle.listing.specs.Answers.{storeAnswer};
 ghost use Rattle.effects.specs.Effect.{applied};
 ghost use Rattle.effects.specs.Hidden.{noHidden};
@@ -16,9 +17,9 @@ ghost use Rattle.core.specs.Spent.{dueInRange, dueOne};
 ghost use Rattle.core.specs.Datapath.{fetched, latched, second, withResult, third, withEffect, dueAfter, ticked, turn, idle, isLast, laterCycle, cycled, oneCycle};
 ghost use Rattle.core.specs.Instruction.{memoryAfter};
 ghost use Rattle.core.specs.AtOnce.{restOf, seen, joined, beforeOf, executedOf, stateAfter, stateOn, bankOn, goesOn, instructionsOn, ahead, reached};
-ghost use Rattle.core.specs.Numbers.{wrongLength, isGoing, longest, clockFull, viewNumber, loadNumber, runNumber};
+ghost use Rattle.core.specs.Numbers.{isGoing, longest, clockFull, viewNumber, loadNumber, runNumber};
 ghost use Rattle.core.specs.Calls.{ran, refused, loadAnswer, goingEnd, endOf, advanced, starting, reset, load, run, step, view};
-ghost use Rattle.core.specs.Answers.{refusalNumber, verdictNumber, loadAnswerOf, runAnswerOf, shown, resetGave, loadGave, runGave, viewGave};
+ghost use Rattle.core.specs.Answers.{loadAnswerOf, runAnswerOf, shown, resetGave, loadGave, runGave, viewGave};
 use alu::Outcome;
 use effects::Effect;
 use effects::Executed;
@@ -30,6 +31,8 @@ use isa::Flags;
 use isa::Kind;
 use listing::Fault;
 use listing::StoreAnswer;
+use refusals::Refusal;
+use refusals::Verdict;
 
 // The most cycles that an instruction takes.
 const LONGEST: u32 = 4;
@@ -81,20 +84,6 @@ pub enum End {
     U,
     B,
     M,
-}
-
-// Why a call is refused before it starts: numbers 1, 7, 8 and 9.
-pub enum Refusal {
-    WrongLength,
-    WrongCycle,
-    Stopped,
-    ClockFull,
-}
-
-// What a call finds before it starts.
-enum Verdict {
-    Taken,
-    Refused(Refusal),
 }
 
 // How many words a load stored; or why it did not start; or the first fault of the listing and the offset of its line's start.
@@ -214,15 +203,6 @@ fn is_going(stop: Stop) -> bool
     }
 }
 
-fn wrong_length(length: usize) -> bool
-    ensures { λ r. ⌜ r ≡ wrongLength length ⌝ }
-{
-    if length == 0 {
-        return true;
-    }
-    65536 < length
-}
-
 fn clock_full(clock: Cycles, b: u32) -> bool
     ensures { λ r. ⌜ r ≡ clockFull (clock .0) b ⌝ }
 {
@@ -233,43 +213,27 @@ fn clock_full(clock: Cycles, b: u32) -> bool
 fn view_verdict(ready: bool) -> Verdict
     ensures { λ r. ⌜ verdictNumber r ≡ viewNumber ready ⌝ }
 {
-    if ready {
-        Verdict::Taken
-    } else {
-        Verdict::Refused(Refusal::WrongCycle)
-    }
+    Verdict::Taken.or(Refusal::WrongCycle, !ready)
 }
 
-// The numbers of a load before its lines: 1, then as a view.
-fn load_verdict(length: usize, ready: bool) -> Verdict
-    ensures { λ r. ⌜ verdictNumber r ≡ loadNumber length ready ⌝ }
+// The numbers of a load before its lines: 1, 7.
+fn load_verdict(words: usize, ready: bool) -> Verdict
+    ensures { λ r. ⌜ verdictNumber r ≡ loadNumber words ready ⌝ }
 {
-    if wrong_length(length) {
-        return Verdict::Refused(Refusal::WrongLength);
-    }
-    view_verdict(ready)
+    Verdict::Taken
+        .or(Refusal::WrongLength, refusals::wrong_length(words))
+        .or(Refusal::WrongCycle, !ready)
 }
 
 // The numbers of a run, and of a step with 4 for b: 1, 8, 7, 9.
 fn run_verdict(length: usize, stop: Stop, ready: bool, clock: Cycles, b: u32) -> Verdict
     ensures { λ r. ⌜ verdictNumber r ≡ runNumber length stop ready (clock .0) b ⌝ }
 {
-    let wrong = wrong_length(length);
-    let going = is_going(stop);
-    let full = clock_full(clock, b);
-    if wrong {
-        return Verdict::Refused(Refusal::WrongLength);
-    }
-    if !going {
-        return Verdict::Refused(Refusal::Stopped);
-    }
-    if !ready {
-        return Verdict::Refused(Refusal::WrongCycle);
-    }
-    if full {
-        return Verdict::Refused(Refusal::ClockFull);
-    }
     Verdict::Taken
+        .or(Refusal::WrongLength, refusals::wrong_length(length))
+        .or(Refusal::Stopped, !is_going(stop))
+        .or(Refusal::WrongCycle, !ready)
+        .or(Refusal::ClockFull, clock_full(clock, b))
 }
 
 fn load_answer(answer: StoreAnswer) -> LoadAnswer

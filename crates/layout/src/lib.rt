@@ -4,17 +4,18 @@ ghost use mathlib.Core.List.{List, [], _∷_};
 ghost use Prim.Native.Nat.{ℕ, _≤_};
 ghost use Rattle.words.specs.Arithmetic.{bit};
 ghost use Rattle.core.specs.Calls.{done, refused, reset, load, run, step, view};
-ghost use Rattle.core.specs.Answers.{refusalNumber, loadAnswerOf, runAnswerOf, viewAnswerOf};
+ghost use Rattle.refusals.specs.Refusals.{refusalNumber};
+ghost use Rattle.core.specs.Answers.{loadAnswerOf, runAnswerOf, viewAnswerOf};
 ghost use Rattle.core.specs.declared.ViewAnswer.the-variants.{Viewed};
 ghost use Rattle.layout.specs.Layout.{padded, flagsNumber, isOdd, flagsOf, stopNumber, answerNumbers, written, numbered, gave};
 use core::Core;
 use core::LoadAnswer;
-use core::Refusal;
 use core::RunAnswer;
 use core::Snapshot;
 use core::ViewAnswer;
 use effects::Stop;
 use isa::Flags;
+use refusals::Refusal;
 
 // The next core, and the answer's numbers.
 pub struct Numbered {
@@ -111,7 +112,7 @@ pub fn done_numbers() -> [u64; 23]
 fn refused_numbers(why: Refusal) -> [u64; 23]
     ensures { λ r. ⌜ r ≡ answerNumbers (refused (refusalNumber why)) ⌝ }
 {
-    four(4, text::refusal_number(why) as u64, 0, 0)
+    four(4, refusals::number(why) as u64, 0, 0)
 }
 
 pub fn load_numbers(answer: LoadAnswer) -> [u64; 23]
@@ -122,7 +123,7 @@ pub fn load_numbers(answer: LoadAnswer) -> [u64; 23]
         LoadAnswer::Refused(why) => refused_numbers(why),
         LoadAnswer::Faulty(fault, offset) => four(
             5,
-            text::fault_number(fault) as u64,
+            listing::fault_number(fault) as u64,
             offset as u64,
             0,
         ),

@@ -3,7 +3,7 @@ ghost use mathlib.Core.Path.{_≡_};
 ghost use lib.ListN.{length};
 ghost use Rattle.digits.specs.Digits.{Holds};
 ghost use Rattle.lines.specs.Lines.{lines};
-ghost use Rattle.listing.specs.Answers.{verdictNumber, storeAnswer};
+ghost use Rattle.listing.specs.Answers.{faultNumber, verdictNumber, storeAnswer};
 ghost use Rattle.listing.specs.Listing.{lowestAfter, addressFault, faultOf, sound, checkOf, wordsOf, storeLine, storeLines, listingAnswer, listingMemory};
 use lines::Line;
 
@@ -23,6 +23,17 @@ enum Verdict {
 pub enum StoreAnswer {
     Stored(usize),
     Refused(Fault, usize),
+}
+
+// The numbers of document 01.
+pub fn fault_number(fault: Fault) -> u8
+    ensures { λ r. ⌜ r ≡ faultNumber fault ⌝ }
+{
+    match fault {
+        Fault::IllFormed => 2,
+        Fault::NotAbove => 3,
+        Fault::PastEnd => 4,
+    }
 }
 
 fn judge_address(limit: usize, lowest: u32, address: u16) -> Verdict

@@ -13,12 +13,13 @@ use Rattle.effects.specs.declared.Stop.the-variants.{Going, Halted, Undefined}
 use Rattle.core.specs.State.{visibleOf, freshCore}
 use Rattle.core.specs.Spent.{dueOne}
 use Rattle.core.specs.Instruction.{after, memoryAfter, wordTakes, takes, instructed}
-use Rattle.core.specs.Numbers.{wrongLength, isGoing, loadNumber, runNumber, stepNumber, viewNumber}
+use Rattle.refusals.specs.Refusals.{wrongLength}
+use Rattle.core.specs.Numbers.{isGoing, loadNumber, runNumber, stepNumber, viewNumber}
 use Rattle.core.specs.Calls as core
 use Rattle.core.specs.Calls.{ran, viewed, Progress, cyclesOn, starting, endOf}
 use Rattle.core.specs.declared.Core.{Core}
 use Rattle.core.proofs.Spent.{due-of-spent}
-use Rattle.core.proofs.Refusals.{none-applies}
+use Rattle.refusals.proofs.First.{none-applies}
 use Rattle.core.proofs.Cycles.{cycles-add, counted, cycles-counted}
 use Rattle.lists.specs.Machine as machine
 use Rattle.lists.specs.Machine.{Machine, Logged, cyclesOf, looped, loopOf, used, spentAfter, noneSpent, stepped}

@@ -7,7 +7,8 @@ use Prim.Native.Nat.{ℕ, _+_, _≤_}
 use lib.ListN.{length}
 use Rattle.effects.specs.declared.Stop.the-variants.{Going}
 use Rattle.core.specs.Calls.{Reply, run, step}
-use Rattle.core.specs.TheoremsOfCalls.{Taken, runNumbers}
+use Rattle.refusals.specs.Theorems.{Taken}
+use Rattle.core.specs.TheoremsOfCalls.{runNumbers}
 use Rattle.core.specs.declared.Core.{Core}
 use Rattle.r8.specs.Numbers.{registersOf, stateOf, coreOf, isCore}
 use Rattle.r8.specs.Call.{Lent, codeOf, after, called}

@@ -112,7 +112,7 @@ fn write_trace(rows: &[u64; 2000], cycles: Cycles, instructions: Instructions, e
 fn write_refusal(fault: Fault, offset: usize) {
     let mut page = [0u8; 8192];
     let mut at = put(&mut page, 0, b"refused ");
-    at = put_number(&mut page, at, text::fault_number(fault) as u64);
+    at = put_number(&mut page, at, listing::fault_number(fault) as u64);
     at = put(&mut page, at, b" at ");
     at = put_number(&mut page, at, offset as u64);
     at = put(&mut page, at, b"\n");

@@ -1,13 +1,9 @@
-// How words, flags, end letters and numbers are written.
+// How words, flags, end letters and lines of a trace are written.
 ghost use mathlib.Core.Path.{_≡_};
 ghost use Rattle.text.specs.Text.{hexDigit, lastDigit, bitText, wordText, flagsText, lineText, letterText};
-ghost use Rattle.listing.specs.Answers.{faultNumber};
-ghost use Rattle.core.specs.Answers.{refusalNumber};
 use core::End;
-use core::Refusal;
 use isa::Cycles;
 use isa::Flags;
-use listing::Fault;
 
 // The last hexadecimal digit of a word.
 fn digit(word: u16) -> u8
@@ -74,27 +70,5 @@ pub fn letter(end: End) -> u8
         End::U => b'U',
         End::B => b'B',
         End::M => b'M',
-    }
-}
-
-// The numbers of document 01.
-pub fn fault_number(fault: Fault) -> u8
-    ensures { λ r. ⌜ r ≡ faultNumber fault ⌝ }
-{
-    match fault {
-        Fault::IllFormed => 2,
-        Fault::NotAbove => 3,
-        Fault::PastEnd => 4,
-    }
-}
-
-pub fn refusal_number(why: Refusal) -> u8
-    ensures { λ r. ⌜ r ≡ refusalNumber why ⌝ }
-{
-    match why {
-        Refusal::WrongLength => 1,
-        Refusal::WrongCycle => 7,
-        Refusal::Stopped => 8,
-        Refusal::ClockFull => 9,
     }
 }

@@ -14,13 +14,15 @@ use Rattle.effects.specs.declared.Stop.the-variants.{Going}
 use Rattle.core.specs.State.{Visible, visibleOf}
 use Rattle.core.specs.Spent.{spentOf, dueOne}
 use Rattle.core.specs.Instruction.{after, memoryAfter, takes, instructed}
-use Rattle.core.specs.Numbers.{wrongLength, isGoing, runNumber}
+use Rattle.refusals.specs.Refusals.{wrongLength}
+use Rattle.core.specs.Numbers.{isGoing, runNumber}
 use Rattle.core.specs.Calls.{Reply, Progress, advanced, cyclesOn, steppedReply, step}
 use Rattle.core.specs.declared.Core.{Core}
 use Rattle.core.proofs.Spent.{none-spent}
 use Rattle.core.proofs.Cycles.{no-cycle, one-more, none-more, cycles-add, only-going, cost-range}
 use Rattle.core.proofs.OneInstruction.{one-finished, one-instruction}
-use Rattle.core.proofs.Replies.{passed, none-left, step-starts, applied-length}
+use Rattle.refusals.proofs.First.{passed, none-left}
+use Rattle.core.proofs.Replies.{step-starts, applied-length}
 use Rattle.layout.specs.Layout.{flagsNumber}
 use Rattle.trace.specs.Trace.{cyclesOf, rowOf, rowsOf}
 use Rattle.trace.specs.Theorems.{cyclesIn}

@@ -15,22 +15,24 @@ use Rattle.listing.proofs.Stores.{length-lines}
 use Rattle.listing.specs.declared.Fault.{Fault}
 use Rattle.isa.specs.declared.Cycles.{Cycles}
 use Rattle.core.specs.State.{freshCore}
-use Rattle.core.specs.Numbers.{wrongLength, firstNumber, loadNumber, runNumber}
+use Rattle.refusals.specs.Refusals.{refusalNumber, wrongLength, firstNumber}
+use Rattle.core.specs.Numbers.{loadNumber, runNumber}
 use Rattle.core.specs.Spent.{dueOne}
 use Rattle.core.specs.Calls.{Answer, ran, refused, refusedAt, Reply, loadAnswer, load, loadedReply, cyclesOn, starting, ranReply, run}
 use Rattle.core.specs.declared.End.{End}
-use Rattle.core.specs.Answers.{refusalNumber, loadAnswerOf, loadGave, runAnswerOf, runGave}
+use Rattle.core.specs.Answers.{loadAnswerOf, loadGave, runAnswerOf, runGave}
 use Rattle.core.specs.declared.Core.{Core}
 use Rattle.core.specs.declared.LoadAnswer.{LoadAnswer}
 use Rattle.core.specs.declared.LoadAnswer.the-variants.{Stored, Refused, Faulty}
 use Rattle.core.specs.declared.LoadReply.{LoadReply}
-use Rattle.core.specs.declared.Refusal.{Refusal}
+use Rattle.refusals.specs.declared.Refusal.{Refusal}
 use Rattle.core.specs.declared.Instructions.{Instructions}
 use Rattle.core.specs.declared.RunAnswer.{RunAnswer}
 use Rattle.core.specs.declared.RunAnswer.the-variants.{Ran, Refused as Unrun}
 use Rattle.core.specs.declared.RunReply.{RunReply}
 use Rattle.core.proofs.Taken.{reply-own}
-use Rattle.core.proofs.Replies.{passed, none-left, run-starts}
+use Rattle.refusals.proofs.First.{passed, none-left}
+use Rattle.core.proofs.Replies.{run-starts}
 use Rattle.trace.specs.Trace.{instructionsOf, Finding, Trace, answered, tooLong, noRoom, rowsOf, traceOf, tracedOn, afterLoad, traced, findingOf, traceGave}
 use Rattle.trace.specs.declared.TraceAnswer.{TraceAnswer}
 use Rattle.trace.specs.declared.TraceAnswer.the-variants.{Traced}

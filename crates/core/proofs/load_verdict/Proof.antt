@@ -1,26 +1,22 @@
--- `core::load_verdict` meets its contract: the tests in their order. Assumes nothing.
-use mathlib.Core.Path.{sym, _∙_}
+-- `core::load_verdict` meets its contract: its list, one number at a time. Assumes nothing.
+use mathlib.Core.Path.{ap, _∙_}
+use mathlib.Core.Bool.{Bool, not}
+use mathlib.Core.List.{[], _∷_}
 use borrow.Author.Needs.{needs}
-use Rattle.core.specs.Numbers.{loadNumber, viewNumber}
-use Rattle.core.proofs.Replies.{found, passed}
+use Rattle.refusals.specs.Refusals.{firstNumber}
+use Rattle.refusals.proofs.First.{asked-all}
+use Rattle.core.specs.Numbers.{loadNumber}
 use Rattle.core.proofs.load_verdict.Statement.{statement}
 use Rattle.core.proofs.load_verdict.Tie as tie
 
 returns : tie.Need-returns
 unfolding loadNumber
-returns c = sym (found 1 _ _ (sym (c .before .wrong-length .ensures) ∙ c .if1 .taken))
-
-returns-2 : tie.Need-returns-2
-unfolding loadNumber viewNumber
-returns-2 c =
-    let length = passed 1 _ _ (sym (c .before .before .wrong-length .ensures) ∙ c .before .if1 .left) in
-    c .view-verdict .ensures ∙ sym length
+returns c =
+    let ready = c .before .before .before .args .ready in
+    asked-all (c .or2 .result)
+    ∙ c .or2 .ensures []
+    ∙ c .before .or .ensures ((7, not ready) ∷ [])
+    ∙ ap (λ (wrong : Bool). firstNumber ((1, wrong) ∷ (7, not ready) ∷ [])) (c .before .before .wrong-length .ensures)
 
 pub load-verdict-spec : {M : Type 1} → statement M
-load-verdict-spec =
-    tie.close
-    (tie.spec
-    (λ c κs. search needs)
-    returns
-    (λ c κs. search needs)
-    returns-2)
+load-verdict-spec = tie.close (tie.spec (λ c κs. search needs) (λ c κs. search needs) (λ c κs. search needs) returns)

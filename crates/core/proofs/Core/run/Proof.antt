@@ -10,7 +10,7 @@ use lib.ListN.{length}
 use Rattle.core.specs.Spent.{dueInRange}
 use Rattle.core.specs.Numbers.{runNumber}
 use Rattle.core.specs.Calls.{Reply, Progress, cyclesOn, ranReply, run}
-use Rattle.core.specs.Answers.{verdictNumber}
+use Rattle.refusals.specs.Refusals.{verdictNumber}
 use Rattle.core.specs.declared.Core.{Core}
 use Rattle.core.proofs.Refusals.{ready}
 use Rattle.core.proofs.Cycles.{none-more}

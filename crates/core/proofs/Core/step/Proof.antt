@@ -9,7 +9,7 @@ use Rattle.core.specs.State.{withHidden}
 use Rattle.core.specs.Spent.{dueOne}
 use Rattle.core.specs.Numbers.{longest, runNumber, stepNumber}
 use Rattle.core.specs.Calls.{ran, step, endOf}
-use Rattle.core.specs.Answers.{verdictNumber}
+use Rattle.refusals.specs.Refusals.{verdictNumber}
 use Rattle.core.proofs.Refusals.{ready}
 use Rattle.core.proofs.Replies.{refused-reply, step-starts}
 use Rattle.core.proofs.AtOnce.{just-one, as-step}

@@ -5,7 +5,8 @@ use borrow.Author.Needs.{needs}
 use Rattle.core.specs.State.{freshCore}
 use Rattle.core.specs.Numbers.{viewNumber}
 use Rattle.core.specs.Calls.{viewedReply, view}
-use Rattle.core.specs.Answers.{verdictNumber, viewAnswerOf, shown}
+use Rattle.refusals.specs.Refusals.{verdictNumber}
+use Rattle.core.specs.Answers.{viewAnswerOf, shown}
 use Rattle.core.proofs.Replies.{refused-reply, view-taken, one-when, other-when}
 use Rattle.core.proofs.Core.view.Statement.{statement}
 use Rattle.core.proofs.Core.view.Tie as tie

@@ -1,7 +1,7 @@
--- `core::wrong_length` meets its contract: by whether the length is 0. Assumes nothing.
+-- `refusals::wrong_length` meets its contract: by whether the length is 0. Assumes nothing.
 use borrow.Author.Tests.{eq-eqb, ne-eqb}
-use Rattle.core.proofs.wrong_length.Statement.{statement}
-use Rattle.core.proofs.wrong_length.Tie as tie
+use Rattle.refusals.proofs.wrong_length.Statement.{statement}
+use Rattle.refusals.proofs.wrong_length.Tie as tie
 
 returns : tie.Need-returns
 returns c = rw (eq-eqb (c .before .args .length) 0 (c .if1 .taken))

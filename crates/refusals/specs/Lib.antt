@@ -1,0 +1,3 @@
+-- What the contracts of `refusals` cite, and the theorem about it.
+pub mod Refusals
+pub mod Theorems

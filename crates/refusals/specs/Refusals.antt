@@ -1,0 +1,38 @@
+-- Document 01, 'Numbers from the input' and 'Numbers from the state': why a call is refused before it starts, by its number, and the first
+-- number that applies.
+use mathlib.Core.Bool.{Bool, true, cond}
+use mathlib.Core.List.{List, [], _∷_}
+use Prim.Native.Nat.{ℕ}
+use lib.Dec.{eqb, ltb}
+use Rattle.refusals.specs.declared.Refusal.{Refusal}
+use Rattle.refusals.specs.declared.Refusal.the-variants.{WrongLength, WrongCycle, Stopped, ClockFull}
+use Rattle.refusals.specs.declared.Verdict.{Verdict}
+use Rattle.refusals.specs.declared.Verdict.the-variants.{Taken, Refused}
+
+-- '1: L is 0 or above 65,536 ..', '7: cycle due is not 1 .., or outside 1 to 4 ..', '8: stopped ..', '9: clock plus b .. exceeds
+-- 4,294,967,295'
+abbrev pub refusalNumber : Refusal → ℕ
+refusalNumber WrongLength = 1
+refusalNumber WrongCycle = 7
+refusalNumber Stopped = 8
+refusalNumber ClockFull = 9
+
+-- '1: L is 0 or above 65,536'
+abbrev pub wrongLength : ℕ → Bool
+wrongLength L = cond (eqb L 0) true (ltb 65536 L)
+
+-- a call's order is a list of numbers, each with whether it applies. The first number that applies; 0, which is no number, where none does
+-- and the call is taken
+unfoldable pub firstNumber : List (ℕ × Bool) → ℕ
+firstNumber [] = 0
+firstNumber (x ∷ rest) = cond (x .1) (x .0) (firstNumber rest)
+
+-- what is found before a call starts; 0 where it is taken
+abbrev pub verdictNumber : Verdict → ℕ
+verdictNumber Taken = 0
+verdictNumber (Refused why) = refusalNumber why
+
+-- and with more to ask, where nothing was found so far
+abbrev pub firstAfter : Verdict → List (ℕ × Bool) → ℕ
+firstAfter Taken rest = firstNumber rest
+firstAfter (Refused why) rest = refusalNumber why
