@@ -9,11 +9,12 @@ use borrow.Author.Tests.{le-ltb}
 use lib.ListN.{length}
 use Rattle.effects.specs.declared.Stop.{Stop}
 use Rattle.effects.specs.declared.Stop.the-variants.{Going, Halted, Undefined}
-use Rattle.core.specs.Datapath.{cycled}
+use Rattle.core.specs.Datapath.{dueCycle}
 use Rattle.core.specs.Spent.{dueOne, dueInRange}
 use Rattle.refusals.specs.Refusals.{wrongLength}
 use Rattle.core.specs.Numbers.{isGoing, clockFull, runNumber}
-use Rattle.core.specs.Calls.{Progress, advanced, cyclesOn, starting, ranReply, endOf, run}
+use Rattle.core.specs.Progress.{Progress, starting, cycleOn, cyclesOn}
+use Rattle.core.specs.Calls.{ranReply, endOf, run}
 use Rattle.core.specs.TheoremsOfCalls.{RunAgain}
 use Rattle.core.specs.declared.Core.{Core}
 use Rattle.core.proofs.Cycles.{one-more, none-more, no-cycle, cycles-add, counted, cycles-counted}
@@ -25,24 +26,24 @@ use Rattle.core.proofs.Replies.{applied-length}
 
 -- cycles leave one of 1 to 4 due, and the memory's length
 pub due-stays : (n : ℕ) (p : Progress) → dueInRange (p .core) ≡ true → dueInRange (cyclesOn n p .core) ≡ true
-unfolding advanced
+unfolding cycleOn
 due-stays zero p due = rw (no-cycle p) due
 due-stays (suc n) p due =
-    by (isGoing (p .core .stop)) refl (due-stays n (advanced p) (cycle-ticks (p .memory) (p .core) due .due))
+    by (isGoing (p .core .stop)) refl (due-stays n (cycleOn p) (cycle-ticks (p .memory) (p .core) due .due))
   where
-    by : (g : Bool) → isGoing (p .core .stop) ≡ g → dueInRange (cyclesOn n (advanced p) .core) ≡ true
+    by : (g : Bool) → isGoing (p .core .stop) ≡ g → dueInRange (cyclesOn n (cycleOn p) .core) ≡ true
         → dueInRange (cyclesOn (suc n) p .core) ≡ true
     by true g ih = rw (one-more n p g) ih
     by false g ih = rw (none-more (suc n) p g) due
 
 pub length-stays : (n : ℕ) (p : Progress) → length (cyclesOn n p .memory) ≡ length (p .memory)
-unfolding advanced
+unfolding cycleOn
 length-stays zero p = rw (no-cycle p) refl
-length-stays (suc n) p = by (isGoing (p .core .stop)) refl (length-stays n (advanced p))
+length-stays (suc n) p = by (isGoing (p .core .stop)) refl (length-stays n (cycleOn p))
   where
-    by : (g : Bool) → isGoing (p .core .stop) ≡ g → length (cyclesOn n (advanced p) .memory) ≡ length (advanced p .memory)
+    by : (g : Bool) → isGoing (p .core .stop) ≡ g → length (cyclesOn n (cycleOn p) .memory) ≡ length (cycleOn p .memory)
         → length (cyclesOn (suc n) p .memory) ≡ length (p .memory)
-    by true g ih = rw (one-more n p g) (ih ∙ applied-length (cycled (p .memory) (p .core) .store) (p .memory))
+    by true g ih = rw (one-more n p g) (ih ∙ applied-length (dueCycle (p .memory) (p .core) .store) (p .memory))
     by false g ih = rw (none-more (suc n) p g) refl
 
 -- a run that every number passes is its own reply

@@ -14,10 +14,11 @@ use Rattle.effects.specs.declared.Store.{Store}
 use Rattle.effects.specs.declared.Store.the-variants.{Nothing}
 use Rattle.effects.specs.declared.Stop.{Stop}
 use Rattle.effects.specs.declared.Stop.the-variants.{Going, Halted, Undefined}
-use Rattle.core.specs.Datapath.{fetched, second, third, dueAfter, turn, isLast, cycled}
+use Rattle.core.specs.Datapath.{fetched, second, third, dueAfter, transition, isLast, dueCycle}
 use Rattle.core.specs.Numbers.{isGoing}
 use Rattle.core.specs.Spent.{dueInRange, dueOne}
-use Rattle.core.specs.Calls.{Progress, advanced, cyclesOn, endOf}
+use Rattle.core.specs.Progress.{Progress, cycleOn, cyclesOn}
+use Rattle.core.specs.Calls.{endOf}
 use Rattle.core.specs.TheoremsOfCalls.{Letter}
 use Rattle.core.specs.declared.Core.{Core}
 use Rattle.core.specs.declared.End.{End}
@@ -87,13 +88,13 @@ letter core =
 -- the cycles done are the budget, or fewer and the core is stopped
 pub budget : (n : ℕ) (p : Progress)
     → (cyclesOn n p .used ≤ p .used + n) × (isGoing (cyclesOn n p .core .stop) ≡ true → cyclesOn n p .used ≡ p .used + n)
-unfolding advanced
+unfolding cycleOn
 budget zero p = rw (no-cycle p) (omega arith, λ _. omega arith)
-budget (suc n) p = by (isGoing (p .core .stop)) refl (budget n (advanced p))
+budget (suc n) p = by (isGoing (p .core .stop)) refl (budget n (cycleOn p))
   where
     by : (g : Bool) → isGoing (p .core .stop) ≡ g
-        → (cyclesOn n (advanced p) .used ≤ advanced p .used + n)
-        × (isGoing (cyclesOn n (advanced p) .core .stop) ≡ true → cyclesOn n (advanced p) .used ≡ advanced p .used + n)
+        → (cyclesOn n (cycleOn p) .used ≤ cycleOn p .used + n)
+        × (isGoing (cyclesOn n (cycleOn p) .core .stop) ≡ true → cyclesOn n (cycleOn p) .used ≡ cycleOn p .used + n)
         → (cyclesOn (suc n) p .used ≤ p .used + suc n)
         × (isGoing (cyclesOn (suc n) p .core .stop) ≡ true → cyclesOn (suc n) p .used ≡ p .used + suc n)
     by true g ih = rw (one-more n p g) (omega (arith, ih .0), λ e. omega (arith, ih .1 e))
@@ -110,10 +111,10 @@ pub record Ticks (before after : Core) : Type 0 where
   pub due : dueInRange after ≡ true
 
 ticks : (finished : Bool) (before core : Core) (store : Store) → core .clock .0 ≡ before .clock .0 → core .due ≤ 3
-    → Ticks before (turn finished core store .core)
+    → Ticks before (transition finished core store .core)
 ticks finished before core store c d =
     let r = due-after-range finished (core .due) d in
-    record { clock = ap (λ (n : ℕ). n + 1) c; due = range-when (turn finished core store .core) (r .0) (r .1) }
+    record { clock = ap (λ (n : ℕ). n + 1) c; due = range-when (transition finished core store .core) (r .0) (r .1) }
 
 four-cases : (P : Type 0) (n : ℕ) → 1 ≤ n → n ≤ 4 → (n ≡ 1 → P) → (n ≡ 2 → P) → (n ≡ 3 → P) → (n ≡ 4 → P) → P
 four-cases P zero l h p1 p2 p3 p4 = absurd (omega arith)
@@ -123,11 +124,11 @@ four-cases P (suc (suc (suc zero))) l h p1 p2 p3 p4 = p3 refl
 four-cases P (suc (suc (suc (suc zero)))) l h p1 p2 p3 p4 = p4 refl
 four-cases P (suc (suc (suc (suc (suc n))))) l h p1 p2 p3 p4 = absurd (omega arith)
 
-pub cycle-ticks : (memory : List ℕ) (core : Core) → dueInRange core ≡ true → Ticks core (cycled memory core .core)
+pub cycle-ticks : (memory : List ℕ) (core : Core) → dueInRange core ≡ true → Ticks core (dueCycle memory core .core)
 cycle-ticks memory core due =
     let k = kindOf (core .hidden .ir) in
     let r = due-when core due in
-    four-cases (Ticks core (cycled memory core .core)) (core .due) (r .0) (r .1)
+    four-cases (Ticks core (dueCycle memory core .core)) (core .due) (r .0) (r .1)
     (λ d. rw (first-cycle memory core d) (ticks false core (fetched memory core) Nothing refl (omega arith)))
     (λ d. let keeps = second-keeps (stopOf k) k core in
     rw (later memory core (λ e. omega arith) ∙ second-cycle memory core k d)
@@ -141,15 +142,15 @@ cycle-ticks memory core due =
 -- so the clock moves by what is used
 pub clock-moves : (n : ℕ) (p : Progress) → dueInRange (p .core) ≡ true
     → cyclesOn n p .core .clock .0 + p .used ≡ p .core .clock .0 + cyclesOn n p .used
-unfolding advanced
+unfolding cycleOn
 clock-moves zero p due = rw (no-cycle p) refl
 clock-moves (suc n) p due =
     let t = cycle-ticks (p .memory) (p .core) due in
-    by (isGoing (p .core .stop)) refl (clock-moves n (advanced p) (t .due)) t
+    by (isGoing (p .core .stop)) refl (clock-moves n (cycleOn p) (t .due)) t
   where
     by : (g : Bool) → isGoing (p .core .stop) ≡ g
-        → cyclesOn n (advanced p) .core .clock .0 + advanced p .used ≡ advanced p .core .clock .0 + cyclesOn n (advanced p) .used
-        → Ticks (p .core) (cycled (p .memory) (p .core) .core)
+        → cyclesOn n (cycleOn p) .core .clock .0 + cycleOn p .used ≡ cycleOn p .core .clock .0 + cyclesOn n (cycleOn p) .used
+        → Ticks (p .core) (dueCycle (p .memory) (p .core) .core)
         → cyclesOn (suc n) p .core .clock .0 + p .used ≡ p .core .clock .0 + cyclesOn (suc n) p .used
     by true g ih t = rw (one-more n p g) (omega (arith, t .clock))
     by false g ih t = rw (none-more (suc n) p g) refl

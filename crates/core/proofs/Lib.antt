@@ -3,7 +3,7 @@ pub mod Spent
 pub mod Parts
 pub mod Cycles
 pub mod OneInstruction
-pub mod AtOnce
+pub mod WholeInstructions
 pub mod Foreign
 pub mod Bench
 pub mod Refusals

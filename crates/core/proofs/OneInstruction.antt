@@ -26,13 +26,12 @@ use Rattle.effects.proofs.Theorems.{cycles-agree, past-the-last}
 use Rattle.effects.specs.declared.Stop as stop
 use Rattle.effects.specs.declared.Stop.the-variants.{Going, Halted, Undefined}
 use Rattle.effects.specs.declared.Store.the-variants.{Nothing}
-use Rattle.core.specs.State.{withPc, withFlags, withHidden, withDue, stopped, withClock, Visible, visibleOf, visible, withVisible, register, raOf, rbOf, reach, changed}
+use Rattle.core.specs.Cores.{withPc, withFlags, withHidden, withDue, stopped, withClock, Visible, visibleOf, visible, withVisible, register, raOf, rbOf, effectBefore, changed}
 use Rattle.core.specs.Spent.{dueOne}
-use Rattle.core.specs.Datapath.{fetched, latched, second, third, fourthEffect, withEffect, ticked, turn, isLast, laterCycle, cycled}
+use Rattle.core.specs.Datapath.{fetched, latched, second, third, fourthEffect, withEffect, ticked, transition, isLast, laterCycle, dueCycle}
 use Rattle.core.specs.Instruction.{wordDue, past, effectOf, after, memoryAfter, takes, resultOf, coreAfter}
 use Rattle.core.specs.Numbers.{isGoing}
-use Rattle.core.specs.Calls.{Progress, advancedBy, advanced, cyclesOn}
-use Rattle.core.specs.AtOnce.{pastOne}
+use Rattle.core.specs.Progress.{Progress, transitionOn, cycleOn, cyclesOn, pastOne}
 use Rattle.core.specs.Theorems.{Midway, OneInstruction}
 use Rattle.core.specs.declared.Core.{Core}
 use Rattle.core.proofs.Spent.{due-when-one}
@@ -116,46 +115,46 @@ holds M c = withRaRb (raOf (word M c) (c .regs)) (rbOf (kind M c) (word M c) (c 
 -- the instruction by the table, and cycles 2 to 4, by its class
 abbrev Classes : Class → List ℕ → Core → Type 0
 Classes class M c =
-    AsCycles class (kind M c) (holds M c) M (reach (word M c) (past (visibleOf (ready c)))) (effectOf (word M c) M (visibleOf (ready c)))
+    AsCycles class (kind M c) (holds M c) M (effectBefore (word M c) (past (visibleOf (ready c)))) (effectOf (word M c) M (visibleOf (ready c)))
 
 classes : (M : List ℕ) (c : Core) → Classes (classOf (kind M c) (c .flags)) M c
 classes M c =
     cycles-agree (kind M c) (fieldT (word M c)) (fieldA (word M c)) (fieldB (word M c)) (register (c .regs)) M (holding M c)
-    (reach (word M c) (past (visibleOf (ready c)))) refl
+    (effectBefore (word M c) (past (visibleOf (ready c)))) refl
 
 -- a HALT or undefined word leaves RALU
 ralu-stays : (M : List ℕ) (c : Core) → classOf (kind M c) (c .flags) ≡ Stop → c .hidden .ralu ≡ resultOf (word M c) (ready c)
 ralu-stays M c e =
-    let x = reach (word M c) (past (visibleOf (ready c))) in
+    let x = effectBefore (word M c) (past (visibleOf (ready c))) in
     let idle : Idle Stop (kind M c) (holds M c) M x =
     subst (λ (class : Class). Idle class (kind M c) (holds M c) M x) e (past-the-last (kind M c) (holds M c) M x) in
     sym (ap (λ (outcome : Outcome). outcome .value) (idle .0))
 
 module _ (M : List ℕ) (c : Core) (u f : ℕ) where
-  advance1 : advanced (at (ready c) M u f) ≡ at (after1 M c) M (u + 1) (f + 0)
-  unfolding advanced cycled
+  advance1 : cycleOn (at (ready c) M u f) ≡ at (after1 M c) M (u + 1) (f + 0)
+  unfolding cycleOn dueCycle
   advance1 = refl
 
   advance2 : (last : Bool) (next : Core)
       → isLast (kind M c) (after1 M c) ≡ last → second (stopOf (kind M c)) (kind M c) (after1 M c) ≡ next
-      → advanced (at (after1 M c) M u f) ≡ advancedBy (turn last next Nothing) (at (after1 M c) M u f)
-  unfolding advanced cycled laterCycle
-  advance2 last next e n = λ j. advancedBy (turn (e j) (n j) Nothing) (at (after1 M c) M u f)
+      → cycleOn (at (after1 M c) M u f) ≡ transitionOn (transition last next Nothing) (at (after1 M c) M u f)
+  unfolding cycleOn dueCycle laterCycle
+  advance2 last next e n = λ j. transitionOn (transition (e j) (n j) Nothing) (at (after1 M c) M u f)
 
   advance3 : (last : Bool) → isLast (kind M c) (after2 M c) ≡ last
-      → advanced (at (after2 M c) M u f) ≡ advancedBy (turn last (third (kind M c) (after2 M c)) Nothing) (at (after2 M c) M u f)
-  unfolding advanced cycled laterCycle
-  advance3 last e = λ j. advancedBy (turn (e j) (third (kind M c) (after2 M c)) Nothing) (at (after2 M c) M u f)
+      → cycleOn (at (after2 M c) M u f) ≡ transitionOn (transition last (third (kind M c) (after2 M c)) Nothing) (at (after2 M c) M u f)
+  unfolding cycleOn dueCycle laterCycle
+  advance3 last e = λ j. transitionOn (transition (e j) (third (kind M c) (after2 M c)) Nothing) (at (after2 M c) M u f)
 
   advance4 : isLast (kind M c) (after3 M c) ≡ true
-      → advanced (at (after3 M c) M u f)
-      ≡ advancedBy
-      (turn true (withEffect (fourthEffect (kind M c) M (after3 M c)) (after3 M c)) (fourthEffect (kind M c) M (after3 M c) .store))
+      → cycleOn (at (after3 M c) M u f)
+      ≡ transitionOn
+      (transition true (withEffect (fourthEffect (kind M c) M (after3 M c)) (after3 M c)) (fourthEffect (kind M c) M (after3 M c) .store))
       (at (after3 M c) M u f)
-  unfolding advanced cycled laterCycle
+  unfolding cycleOn dueCycle laterCycle
   advance4 e =
-      λ j. advancedBy
-      (turn (e j) (withEffect (fourthEffect (kind M c) M (after3 M c)) (after3 M c)) (fourthEffect (kind M c) M (after3 M c) .store))
+      λ j. transitionOn
+      (transition (e j) (withEffect (fourthEffect (kind M c) M (after3 M c)) (after3 M c)) (fourthEffect (kind M c) M (after3 M c) .store))
       (at (after3 M c) M u f)
 
 -- what the class says of the cost, and of the last cycle
@@ -179,7 +178,7 @@ unfolding costOf
 fourth-last M c = four-at-most (classOf (kind M c) (after3 M c .flags))
 
 -- a cycle, then others
-then : (n : ℕ) (p q : Progress) → isGoing (p .core .stop) ≡ true → advanced p ≡ q → cyclesOn (suc n) p ≡ cyclesOn n q
+then : (n : ℕ) (p q : Progress) → isGoing (p .core .stop) ≡ true → cycleOn p ≡ q → cyclesOn (suc n) p ≡ cyclesOn n q
 then n p q g e = one-more n p g ∙ ap (cyclesOn n) e
 
 below-four : (P : ℕ → Type 0) (n : ℕ) → n ≤ 4 → P 0 → P 1 → (2 < n → P 2) → (3 < n → P 3) → (i : ℕ) → i < n → P i
@@ -313,7 +312,7 @@ module _ (M : List ℕ) (c : Core) (u f : ℕ) where
       let cost = cost-at M c Stop e in
       let v = visibleOf (ready c) in
       let stops = second-stops (stopOf (kind M c)) (kind M c) (after1 M c) (a .0) in
-      let seen = sym (after-by M v _ (a .1) ∙ same-rt (word M c) v (stopping (stopOf (kind M c)) (reach (word M c) (past v))) refl) in
+      let seen = sym (after-by M v _ (a .1) ∙ same-rt (word M c) v (stopping (stopOf (kind M c)) (effectBefore (word M c) (past v))) refl) in
       let ra = keeps (stopOf (kind M c)) _ (c .hidden .ra) (a .0) in
       let rb = keeps (stopOf (kind M c)) _ (c .hidden .rb) (a .0) in
       let ralu = ralu-stays M c e in
@@ -336,7 +335,7 @@ module _ (M : List ℕ) (c : Core) (u f : ℕ) where
       let flags = a .1 in
       let seen =
       (λ j. visibleOf (withFlags (flags j) (withPc (sum (c .pc) 1) (ready c))))
-      ∙ sym (after-by M v _ (a .2) ∙ same-rt (word M c) v (reach (word M c) (past v)) refl) in
+      ∙ sym (after-by M v _ (a .2) ∙ same-rt (word M c) v (effectBefore (word M c) (past v)) refl) in
       let ra = latches (stopOf (kind M c)) _ (c .hidden .ra) (a .0) in
       let rb = latches (stopOf (kind M c)) _ (c .hidden .rb) (a .0) in
       let memory = sym (memory-by M v _ (a .2)) in

@@ -14,11 +14,12 @@ use Rattle.refusals.proofs.First.{passed, none-left, none-applies, has-number}
 use Rattle.effects.specs.Effect.{applied}
 use Rattle.effects.specs.declared.Store.{Store}
 use Rattle.effects.specs.declared.Store.the-variants.{Nothing, Word}
-use Rattle.core.specs.State.{visibleOf}
-use Rattle.core.specs.Instruction.{takes, instructed}
+use Rattle.core.specs.Cores.{visibleOf}
+use Rattle.core.specs.Instruction.{takes, instructionEngine}
 use Rattle.core.specs.Spent.{dueOne, dueInRange}
 use Rattle.core.specs.Numbers.{runNumber, stepNumber, viewNumber}
-use Rattle.core.specs.Calls.{refused, Reply, unless, Progress, cyclesOn, starting, ranReply, steppedReply, viewedReply, run, step, view}
+use Rattle.core.specs.Progress.{Progress, starting, cyclesOn}
+use Rattle.core.specs.Calls.{refused, Reply, unless, ranReply, steppedReply, viewedReply, run, step, view}
 use Rattle.core.specs.declared.Core.{Core}
 use Rattle.core.proofs.Cycles.{no-cycle}
 use Rattle.core.proofs.Taken.{reply-own}
@@ -41,10 +42,10 @@ run-starts b core memory e =
     ∙ ap (λ (n : ℕ). ranReply (cyclesOn n (starting core memory))) (omega arith)
 
 pub step-starts : (core : Core) (memory : List ℕ) → runNumber (length memory) (core .stop) (dueOne core) (core .clock .0) 4 ≡ 0
-    → step core memory ≡ steppedReply (takes memory (visibleOf core)) (instructed memory core) memory
+    → step core memory ≡ steppedReply (takes memory (visibleOf core)) (instructionEngine memory core) memory
 unfolding step stepNumber
 step-starts core memory e =
-    reply-own _ core memory (steppedReply (takes memory (visibleOf core)) (instructed memory core) memory) e
+    reply-own _ core memory (steppedReply (takes memory (visibleOf core)) (instructionEngine memory core) memory) e
 
 -- a run that has done its cycles
 pub run-over : (b : ℕ) (p : Progress) → b ≤ p .used → cyclesOn (b - p .used) p ≡ p

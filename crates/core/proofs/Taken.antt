@@ -14,16 +14,16 @@ use Rattle.refusals.specs.Theorems.{Taken}
 use Rattle.refusals.proofs.First.{none-found, none-applies}
 use Rattle.effects.specs.declared.Stop.the-variants.{Going}
 use Rattle.effects.specs.Hidden.{noHidden}
-use Rattle.core.specs.State.{withHidden, visibleOf}
+use Rattle.core.specs.Cores.{withHidden, visibleOf}
 use Rattle.core.specs.Spent.{dueOne, dueInRange}
-use Rattle.core.specs.Instruction.{after, memoryAfter, takes, coreAfter, instructed}
-use Rattle.core.specs.AtOnce.{pastOne}
-use Rattle.core.specs.Datapath.{idle, cycled, oneCycle}
+use Rattle.core.specs.Instruction.{after, memoryAfter, takes, coreAfter, instructionEngine}
+use Rattle.core.specs.Datapath.{idle, dueCycle, cycleOf}
 use Rattle.core.specs.Numbers.{isGoing, clockFull, loadNumber, runNumber, stepNumber, viewNumber}
-use Rattle.core.specs.Calls.{ran, viewed, Progress, advancedBy, advanced, cyclesOn, starting, endOf, Reply, unless, loadAnswer, loadedReply, viewedReply, ranReply, steppedReply, reset, load, view, run, step}
+use Rattle.core.specs.Progress.{Progress, starting, transitionOn, cycleOn, cyclesOn, pastOne}
+use Rattle.core.specs.Calls.{ran, viewed, endOf, Reply, unless, loadAnswer, loadedReply, viewedReply, ranReply, steppedReply, reset, load, view, run, step}
 use Rattle.core.specs.TheoremsOfCalls.{loadNumbers, runNumbers, stepNumbers, viewNumbers, RunTaken, CycleExactly, StepTaken, OthersTaken}
 use Rattle.core.specs.declared.Core.{Core}
-use Rattle.core.specs.declared.Turn.{Turn}
+use Rattle.core.specs.declared.Transition.{Transition}
 use Rattle.core.proofs.Spent.{due-when-one, range-when-one}
 use Rattle.core.proofs.Cycles.{later, no-cycle-due, within-clock, full-clock, one-more, no-cycle, only-going, cost-range}
 use Rattle.core.proofs.OneInstruction.{one-instruction, one-finished}
@@ -62,7 +62,7 @@ run-taken core memory b taken =
     )
 
 -- where no cycle is done
-none-due : (core : Core) (memory : List ℕ) → (core .due < 1) ⊎ (4 < core .due) → cycled memory core ≡ idle core
+none-due : (core : Core) (memory : List ℕ) → (core .due < 1) ⊎ (4 < core .due) → dueCycle memory core ≡ idle core
 none-due core memory (inl low) =
     later memory core (λ e. omega arith)
     ∙ no-cycle-due memory core _ (λ e. omega arith) (λ e. omega arith) (λ e. omega arith)
@@ -71,8 +71,8 @@ none-due core memory (inr high) =
     ∙ no-cycle-due memory core _ (λ e. omega arith) (λ e. omega arith) (λ e. omega arith)
 
 none-done : (core : Core) (memory : List ℕ) → (4294967295 ≤ core .clock .0) ⊎ ((core .due < 1) ⊎ (4 < core .due))
-    → oneCycle memory core ≡ idle core
-unfolding oneCycle
+    → cycleOf memory core ≡ idle core
+unfolding cycleOf
 none-done core memory (inl full) = full-clock memory core full
 none-done core memory (inr out) =
     ap (cond (clockFull (core .clock .0) 1) (idle core)) (none-due core memory out) ∙ by (clockFull (core .clock .0) 1)
@@ -82,15 +82,15 @@ none-done core memory (inr out) =
     by false = refl
 
 pub cycle-exactly : CycleExactly
-unfolding advanced
+unfolding cycleOn
 cycle-exactly core memory = (
   λ room. within-clock memory core room,
   λ taken. let number = no-run-number core memory 1 taken in
       let r = ready _ _ _ _ _ number in
       let room = r .room in
       run-own core memory 1 taken
-      ∙ ap ranReply (one-more 0 (starting core memory) (r .going) ∙ no-cycle (advanced (starting core memory)))
-      ∙ ap (λ (t : Turn). ranReply (advancedBy t (starting core memory))) (sym (within-clock memory core (omega arith))),
+      ∙ ap ranReply (one-more 0 (starting core memory) (r .going) ∙ no-cycle (cycleOn (starting core memory)))
+      ∙ ap (λ (t : Transition). ranReply (transitionOn t (starting core memory))) (sym (within-clock memory core (omega arith))),
   λ out. none-done core memory out,
 )
 
@@ -100,9 +100,9 @@ module _ (core : Core) (memory : List ℕ) (taken : Taken (stepNumbers core memo
   unfolding stepNumber runNumber
   no-step-number = none-found _ (stepNumbers core memory) (step-mean core memory) taken
 
-  step-own : step core memory ≡ steppedReply (takes memory (visibleOf core)) (instructed memory core) memory
+  step-own : step core memory ≡ steppedReply (takes memory (visibleOf core)) (instructionEngine memory core) memory
   unfolding step
-  step-own = reply-own _ core memory (steppedReply (takes memory (visibleOf core)) (instructed memory core) memory) no-step-number
+  step-own = reply-own _ core memory (steppedReply (takes memory (visibleOf core)) (instructionEngine memory core) memory) no-step-number
 
   step-ready : Ready (length memory) (core .stop) (dueOne core) (core .clock .0) 4
   unfolding stepNumber
@@ -130,7 +130,7 @@ module _ (core : Core) (memory : List ℕ) (taken : Taken (stepNumbers core memo
   run-of-cost = reply-own _ core memory (ranReply (cyclesOn (takes memory (visibleOf core)) (starting core memory))) no-run-number-of-cost
 
 pub step-taken : StepTaken
-unfolding instructed memoryAfter pastOne coreAfter
+unfolding instructionEngine memoryAfter pastOne coreAfter
 step-taken core memory taken =
     let v = visibleOf core in
     let whole = one-instruction (starting core memory) (step-going core memory taken) (step-due core memory taken) .1 in
@@ -143,11 +143,11 @@ step-taken core memory taken =
     let visible = f .visible in
     let one = f .due in
     let due = due-when-one (q .core) one in
-    let answer : ranReply q .answer ≡ steppedReply (takes memory v) (instructed memory core) memory .answer =
+    let answer : ranReply q .answer ≡ steppedReply (takes memory v) (instructionEngine memory core) memory .answer =
     λ j. ran (cycles j) (finished j) (endOf (visible j .stop) (one j)) in (
       endOf (after memory v .stop) true,
       ap (λ (r : Reply). r .answer) stepped,
-      rw stepped (letter (instructed memory core .core)),
+      rw stepped (letter (instructionEngine memory core .core)),
       rw (ranned, stepped) answer,
       rw (ranned, stepped) (f .memory),
       rw ranned due,

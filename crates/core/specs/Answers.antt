@@ -3,7 +3,7 @@ use mathlib.Core.List.{List}
 use Prim.Native.Nat.{ℕ}
 use Rattle.refusals.specs.Refusals.{refusalNumber}
 use Rattle.listing.specs.Answers.{faultNumber}
-use Rattle.core.specs.State.{visible}
+use Rattle.core.specs.Cores.{visible}
 use Rattle.core.specs.Calls.{Answer, done, stored, ran, viewed, refused, refusedAt, Reply}
 use Rattle.core.specs.declared.Core.{Core}
 use Rattle.core.specs.declared.LoadAnswer.{LoadAnswer}

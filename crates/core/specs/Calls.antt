@@ -2,22 +2,21 @@
 -- memory. The contracts of the calls are equations with these, by way of Answers.
 use mathlib.Core.Bool.{Bool, true, false, cond}
 use mathlib.Core.List.{List}
-use Prim.Native.Nat.{ℕ, zero, suc, _+_}
+use Prim.Native.Nat.{ℕ}
 use lib.Dec.{eqb}
 use lib.ListN.{length}
-use Rattle.words.specs.Arithmetic.{bit}
 use Rattle.listing.specs.Answers as listing
 use Rattle.listing.specs.Listing.{listingAnswer, listingMemory}
 use Rattle.effects.specs.Effect.{applied}
 use Rattle.effects.specs.declared.Stop.{Stop}
 use Rattle.effects.specs.declared.Stop.the-variants.{Going, Halted, Undefined}
-use Rattle.core.specs.State.{Visible, visibleOf, freshCore}
+use Rattle.core.specs.Cores.{Visible, visibleOf, freshCore}
 use Rattle.core.specs.Spent.{dueOne, dueInRange}
-use Rattle.core.specs.Datapath.{cycled}
-use Rattle.core.specs.Instruction.{takes, instructed}
-use Rattle.core.specs.Numbers.{isGoing, loadNumber, runNumber, stepNumber, viewNumber}
+use Rattle.core.specs.Instruction.{takes, instructionEngine}
+use Rattle.core.specs.Numbers.{loadNumber, runNumber, stepNumber, viewNumber}
+use Rattle.core.specs.Progress.{Progress, starting, cyclesOn}
 use Rattle.core.specs.declared.Core.{Core}
-use Rattle.core.specs.declared.Turn.{Turn}
+use Rattle.core.specs.declared.Transition.{Transition}
 use Rattle.core.specs.declared.End.{End}
 use Rattle.core.specs.declared.End.the-variants.{H, U, B, M}
 
@@ -81,34 +80,7 @@ viewedReply core memory =
 unfoldable pub view : Core → List ℕ → Reply
 view core memory = unless (viewNumber (dueOne core)) core memory (viewedReply core memory)
 
--- a run under way: core, memory, cycles used, instructions finished
-pub record Progress : Type 0 where
-  pub core : Core
-  pub memory : List ℕ
-  pub used : ℕ
-  pub finished : ℕ
-
--- one cycle more
-abbrev pub advancedBy : Turn → Progress → Progress
-advancedBy turn p =
-    record {
-      core = turn .core;
-      memory = applied (turn .store) (p .memory);
-      used = p .used + 1;
-      finished = p .finished + bit (turn .finished);
-    }
-
-unfoldable pub advanced : Progress → Progress
-advanced p = advancedBy (cycled (p .memory) (p .core)) p
-
--- 'run of b datapath cycles, fewer if the core stops'
-unfoldable pub cyclesOn : ℕ → Progress → Progress
-cyclesOn zero p = p
-cyclesOn (suc b) p = cond (isGoing (p .core .stop)) (cyclesOn b (advanced p)) p
-
-abbrev pub starting : Core → List ℕ → Progress
-starting core memory = record { core = core; memory = memory; used = 0; finished = 0 }
-
+-- 'run of b datapath cycles, fewer if the core stops', which answers 'cycles used, instructions finished, and the end'
 abbrev pub ranReply : Progress → Reply
 ranReply p =
     record {
@@ -123,15 +95,15 @@ run b core memory =
     (ranReply (cyclesOn b (starting core memory)))
 
 -- 'step of one instruction by the instruction engine'; 'Step answers the same'
-abbrev pub steppedReply : ℕ → Turn → List ℕ → Reply
-steppedReply cycles turn memory =
+abbrev pub steppedReply : ℕ → Transition → List ℕ → Reply
+steppedReply cycles transition memory =
     record {
-      answer = ran cycles 1 (endOf (turn .core .stop) (dueOne (turn .core)));
-      core = turn .core;
-      memory = applied (turn .store) memory;
+      answer = ran cycles 1 (endOf (transition .core .stop) (dueOne (transition .core)));
+      core = transition .core;
+      memory = applied (transition .store) memory;
     }
 
 unfoldable pub step : Core → List ℕ → Reply
 step core memory =
     unless (stepNumber (length memory) (core .stop) (dueOne core) (core .clock .0)) core memory
-    (steppedReply (takes memory (visibleOf core)) (instructed memory core) memory)
+    (steppedReply (takes memory (visibleOf core)) (instructionEngine memory core) memory)

@@ -15,9 +15,9 @@ use Rattle.effects.specs.Hidden.{noHidden, withIr, withRaRb}
 use Rattle.effects.specs.Cycles.{stopOf, calculated, hiddenAfter}
 use Rattle.effects.specs.declared.Effect.{Effect}
 use Rattle.effects.specs.declared.Hidden.{Hidden}
-use Rattle.core.specs.State.{withHidden, withDue, withClock, Visible, visible, visibleOf, withVisible, register, raOf, rbOf, reach, changed}
+use Rattle.core.specs.Cores.{withHidden, withDue, withClock, Visible, visible, visibleOf, withVisible, register, raOf, rbOf, effectBefore, changed}
 use Rattle.core.specs.declared.Core.{Core}
-use Rattle.core.specs.declared.Turn.{Turn}
+use Rattle.core.specs.declared.Transition.{Transition}
 
 -- the word at PC
 abbrev pub wordDue : List ℕ → Visible → ℕ
@@ -29,7 +29,7 @@ past v = visible (v .regs) (sum (v .pc) 1) (v .sp) (v .flags) (v .stop)
 
 -- 'then the table'
 abbrev pub executedOn : Kind → ℕ → List ℕ → Visible → Effect
-executedOn kind w M v = executed kind w (raOf w (v .regs)) (register (v .regs) (fieldB w)) M (reach w v)
+executedOn kind w M v = executed kind w (raOf w (v .regs)) (register (v .regs) (fieldB w)) M (effectBefore w v)
 
 abbrev pub effectOf : ℕ → List ℕ → Visible → Effect
 effectOf w M v = executedOn (kindOf w) w M (past v)
@@ -59,7 +59,7 @@ finishedWith h M core =
 abbrev pub resultOf : ℕ → Core → ℕ
 resultOf w core =
     calculated (kindOf w) (withRaRb (raOf w (core .regs)) (rbOf (kindOf w) w (core .regs)) (withIr w (core .hidden)))
-    (reach w (past (visibleOf core)))
+    (effectBefore w (past (visibleOf core)))
     .value
 
 -- the core after the instruction w that is at PC, with its hidden registers as the cycles leave them
@@ -73,8 +73,8 @@ unfoldable pub coreAfter : List ℕ → Core → Core
 coreAfter M core = coreAfterWord (wordDue M (visibleOf core)) M core
 
 -- the instruction engine on a core with cycle 1 due: 'hidden registers become zero'
-unfoldable pub instructed : List ℕ → Core → Turn
-instructed M core =
+unfoldable pub instructionEngine : List ℕ → Core → Transition
+instructionEngine M core =
     record {
       core = finishedWith noHidden M core;
       finished = true;

@@ -19,12 +19,11 @@ use Rattle.effects.specs.declared.Hidden.{Hidden}
 use Rattle.effects.specs.declared.Stop.{Stop}
 use Rattle.effects.specs.declared.Stop.the-variants.{Going, Undefined}
 use Rattle.effects.specs.declared.Store.the-variants.{Nothing}
-use Rattle.core.specs.State.{freshCore, withRegs, withPc, withSp, withFlags, withHidden, withDue, stopped, withClock, visibleOf, register, raOf, rbOf, reach}
+use Rattle.core.specs.Cores.{freshCore, withRegs, withPc, withSp, withFlags, withHidden, withDue, stopped, withClock, visibleOf, register, raOf, rbOf, effectBefore}
 use Rattle.core.specs.Spent.{spentOf, dueInRange, dueOne}
-use Rattle.core.specs.Datapath.{cycled}
-use Rattle.core.specs.Instruction.{past, takes, instructed}
-use Rattle.core.specs.Calls.{Progress, cyclesOn, starting}
-use Rattle.core.specs.AtOnce.{pastOne}
+use Rattle.core.specs.Datapath.{dueCycle}
+use Rattle.core.specs.Instruction.{past, takes, instructionEngine}
+use Rattle.core.specs.Progress.{Progress, starting, cyclesOn, pastOne}
 use Rattle.core.specs.declared.Core.{Core}
 
 -- a core with these parts
@@ -39,7 +38,7 @@ Has regs pc sp flags hidden due stop clock core =
     × (core .stop ≡ stop)
     × (core .clock .0 ≡ clock)
 
--- each setter of State sets its part and leaves all others, of every core: else a wrong one could stand on both sides of a statement (proved as
+-- each setter of Cores sets its part and leaves all others, of every core: else a wrong one could stand on both sides of a statement (proved as
 -- `core-parts`)
 abbrev pub CoreParts : Type 0
 CoreParts =
@@ -65,7 +64,7 @@ SpentExactly =
 abbrev pub outcomeOf : Progress → Core → Outcome
 outcomeOf p core =
     calculated (kindOf (core .hidden .ir)) (withRalu (p .core .hidden .ralu) (core .hidden))
-    (reach (core .hidden .ir) (past (visibleOf (p .core))))
+    (effectBefore (core .hidden .ir) (past (visibleOf (p .core))))
 
 -- q is i cycles into the instruction that starts at p: nothing is stored, finished or stopped; registers and SP are as they were, and
 -- so are the flags until cycle 3 is done; IR takes the word and PC moves one past it in cycle 1, RA and RB are latched in cycle 2, and RALU
@@ -105,7 +104,7 @@ OneInstruction =
 abbrev pub ForeignCore : Type 0
 ForeignCore =
     (memory : List ℕ) (core : Core) → 3 ≤ core .due → core .due ≤ 4 → costOf (kindOf (core .hidden .ir)) (core .flags) < core .due
-    → cycled memory core
+    → dueCycle memory core
     ≡ record { core = withClock (core .clock .0 + 1) (withDue 1 core); finished = true; store = Nothing }
 
 -- The bench: a core with p in R1, q in R2, PC at the word and zero elsewhere; the word is the last of a memory of zeros
@@ -119,7 +118,7 @@ benchMemory word pc = set (replicate (pc + 1) 0) pc word
 abbrev pub Does : ℕ → ℕ → ℕ → ℕ → (Core → Type 0) → Type 0
 Does word p q pc Claim =
     Claim (cyclesOn 4 (starting (benchCore p q pc) (benchMemory word pc)) .core)
-    × Claim (instructed (benchMemory word pc) (benchCore p q pc) .core)
+    × Claim (instructionEngine (benchMemory word pc) (benchCore p q pc) .core)
 
 -- with the word at 0000; and where a jump or call at `pc` goes
 abbrev pub Gives : ℕ → ℕ → ℕ → (Core → Type 0) → Type 0

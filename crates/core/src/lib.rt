@@ -12,13 +12,14 @@ ghost use Rattle.listing.specs.Answers.{storeAnswer};
 ghost use Rattle.effects.specs.Effect.{applied};
 ghost use Rattle.effects.specs.Hidden.{noHidden};
 ghost use Rattle.effects.specs.Cycles.{stopOf};
-ghost use Rattle.core.specs.State.{freshCore, withHidden, stopped, visibleOf, register, reach};
+ghost use Rattle.core.specs.Cores.{freshCore, withHidden, stopped, visibleOf, register, effectBefore};
 ghost use Rattle.core.specs.Spent.{dueInRange, dueOne};
-ghost use Rattle.core.specs.Datapath.{fetched, latched, second, withResult, third, withEffect, dueAfter, ticked, turn, idle, isLast, laterCycle, cycled, oneCycle};
+ghost use Rattle.core.specs.Datapath.{fetched, latched, second, withResult, third, withEffect, dueAfter, ticked, transition, idle, isLast, laterCycle, dueCycle, cycleOf};
 ghost use Rattle.core.specs.Instruction.{memoryAfter};
-ghost use Rattle.core.specs.AtOnce.{restOf, seen, joined, beforeOf, executedOf, stateAfter, stateOn, bankOn, goesOn, instructionsOn, ahead, reached};
+ghost use Rattle.core.specs.WholeInstructions.{workingFrom, seen, joined, beforeOf, executedOf, workingAfter, workingOn, bankOn, mayGoOn, instructionsOn, instructionsOrCycle, reached};
 ghost use Rattle.core.specs.Numbers.{isGoing, longest, clockFull, viewNumber, loadNumber, runNumber};
-ghost use Rattle.core.specs.Calls.{ran, refused, loadAnswer, goingEnd, endOf, advanced, starting, reset, load, run, step, view};
+ghost use Rattle.core.specs.Progress.{starting, cycleOn};
+ghost use Rattle.core.specs.Calls.{ran, refused, loadAnswer, goingEnd, endOf, reset, load, run, step, view};
 ghost use Rattle.core.specs.Answers.{loadAnswerOf, runAnswerOf, shown, resetGave, loadGave, runGave, viewGave};
 use alu::Outcome;
 use effects::Effect;
@@ -54,7 +55,7 @@ pub struct Core {
 }
 
 // A core after a cycle, whether that finished an instruction, and the store that is to be made, if any.
-pub struct Turn {
+pub struct Transition {
     pub core: Core,
     pub finished: bool,
     pub store: Store,
@@ -62,7 +63,7 @@ pub struct Turn {
 
 // What whole instructions change of a core with cycle 1 due, but for its bank of registers and its clock, and what is left of the budget that
 // they spend. They are executed on bank and state apart, so that none of them copies the bank.
-struct State {
+struct Working {
     pc: u16,
     sp: u16,
     flags: Flags,
@@ -72,7 +73,7 @@ struct State {
 }
 
 // A core some cycles on, how many they are, and how many instructions they finished.
-struct Advance {
+struct Moved {
     core: Core,
     cycles: Cycles,
     instructions: Instructions,
@@ -279,8 +280,8 @@ fn apply(store: Store, memory: &mut [u16])
 }
 
 // Is the core going, is there room for an instruction, whatever it takes, and is one more asked?
-fn goes_on(state: State, more: u32) -> bool
-    ensures { λ r. ⌜ r ≡ cond (goesOn (state .stop) (state .left .0)) (ltb 0 more) false ⌝ }
+fn may_go_on(state: Working, more: u32) -> bool
+    ensures { λ r. ⌜ r ≡ cond (mayGoOn (state .stop) (state .left .0)) (ltb 0 more) false ⌝ }
 {
     let stop = state.stop;
     if is_going(stop) {
@@ -291,7 +292,7 @@ fn goes_on(state: State, more: u32) -> bool
     false
 }
 
-impl State {
+impl Working {
     // What an instruction can change, as it is with PC one past it.
     fn before(self, rt: u16) -> Effect
         ensures { λ r. ⌜ r ≡ beforeOf self rt ⌝ }
@@ -321,9 +322,9 @@ impl State {
 
     // The state after that instruction and its cycles, with the hidden registers as these leave them; `regs` are the registers before it. The
     // hidden registers are written out here: a run takes longer where a callee makes them.
-    fn after(self, kind: Kind, word: u16, regs: &[u16], done: Executed, cycles: Cycles) -> State
+    fn after(self, kind: Kind, word: u16, regs: &[u16], done: Executed, cycles: Cycles) -> Working
         requires { ⌜ cycles .0 ≤ self .left .0 ⌝ }
-        ensures { λ r. ⌜ r ≡ stateAfter kind word (now (regs .entry)) done (cycles .0) self ⌝ }
+        ensures { λ r. ⌜ r ≡ workingAfter kind word (now (regs .entry)) done (cycles .0) self ⌝ }
     {
         let stop = effects::stop_of(kind);
         let ra = register_of(regs, isa::field_a(word));
@@ -333,7 +334,7 @@ impl State {
         let flags_after = changed.flags;
         let stop_after = changed.stop;
         let hidden = self.hidden;
-        State {
+        Working {
             pc: changed.pc,
             sp: changed.sp,
             flags: flags_after,
@@ -349,9 +350,9 @@ impl State {
     }
 
     // The instruction engine: the instruction at PC, with the bank and the memory changed where they lie.
-    fn instruct(self, regs: &mut [u16], memory: &mut [u16]) -> State
+    fn instruct(self, regs: &mut [u16], memory: &mut [u16]) -> Working
         requires { ⌜ longest ≤ self .left .0 ⌝ }
-        ensures { λ r. ⌜ (r ≡ stateOn (now (memory .entry)) (now (regs .entry)) self) × (now (regs .exit) ≡ bankOn (now (memory .entry)) (now (regs .entry)) self) × (now (memory .exit) ≡ memoryAfter (now (memory .entry)) (seen self (now (regs .entry)))) ⌝ }
+        ensures { λ r. ⌜ (r ≡ workingOn (now (memory .entry)) (now (regs .entry)) self) × (now (regs .exit) ≡ bankOn (now (memory .entry)) (now (regs .entry)) self) × (now (memory .exit) ≡ memoryAfter (now (memory .entry)) (seen self (now (regs .entry)))) ⌝ }
     {
         let word = words::read(memory, self.pc);
         let kind = table::kind_of(word);
@@ -436,8 +437,8 @@ impl Core {
     }
 
     // What the instruction in IR can change, as it is: Rt, PC, SP, flags and stop state, and nothing to store.
-    fn reach(self) -> Effect
-        ensures { λ r. ⌜ r ≡ reach (self .hidden .ir) (visibleOf self) ⌝ }
+    fn effect_before(self) -> Effect
+        ensures { λ r. ⌜ r ≡ effectBefore (self .hidden .ir) (visibleOf self) ⌝ }
     {
         let regs = self.regs;
         let flags = self.flags;
@@ -457,7 +458,7 @@ impl Core {
         ensures { λ r. ⌜ r ≡ third kind self ⌝ }
     {
         let hidden = self.hidden;
-        let outcome = effects::calculate(kind, hidden, self.reach());
+        let outcome = effects::calculate(kind, hidden, self.effect_before());
         self.with_result(outcome)
     }
 
@@ -496,11 +497,11 @@ impl Core {
         self
     }
 
-    fn turn(self, finished: bool, store: Store) -> Turn
+    fn transition(self, finished: bool, store: Store) -> Transition
         requires { ⌜ (self .clock .0 < 4294967295) × (self .due ≤ 4) ⌝ }
-        ensures { λ r. ⌜ r ≡ turn finished self store ⌝ }
+        ensures { λ r. ⌜ r ≡ transition finished self store ⌝ }
     {
-        Turn {
+        Transition {
             core: self.tick(finished),
             finished: finished,
             store: store,
@@ -508,32 +509,32 @@ impl Core {
     }
 
     // One cycle of a core with cycle 2, 3 or 4 due; with another number due nothing happens (run refuses all but 1 to 4).
-    fn later_cycle(self, kind: Kind, memory: &[u16]) -> Turn
+    fn later_cycle(self, kind: Kind, memory: &[u16]) -> Transition
         requires { ⌜ self .clock .0 < 4294967295 ⌝ }
         ensures { λ r. ⌜ r ≡ laterCycle kind (now (memory .entry)) self ⌝ }
     {
         let due = self.due;
         let last = self.is_last(kind);
         if due == 2 {
-            return self.stop_or_latch(kind).turn(last, Store::Nothing);
+            return self.stop_or_latch(kind).transition(last, Store::Nothing);
         }
         if due == 3 {
-            return self.calculate(kind).turn(last, Store::Nothing);
+            return self.calculate(kind).transition(last, Store::Nothing);
         }
         if due == 4 {
             let hidden = self.hidden;
-            let effect = effects::write_back(kind, hidden, memory, self.reach());
+            let effect = effects::write_back(kind, hidden, memory, self.effect_before());
             let store = effect.store;
-            return self.with_effect(effect).turn(last, store);
+            return self.with_effect(effect).transition(last, store);
         }
         self.idle()
     }
 
     // No cycle.
-    fn idle(self) -> Turn
+    fn idle(self) -> Transition
         ensures { λ r. ⌜ r ≡ idle self ⌝ }
     {
-        Turn {
+        Transition {
             core: self,
             finished: false,
             store: Store::Nothing,
@@ -542,8 +543,8 @@ impl Core {
 
     // The datapath engine: one cycle, for every core. One whose clock is full, or whose cycle due is none of 1 to 4, is handed back as it is. The
     // store is the caller's to make; whether the core is going is the caller's to ask.
-    pub fn cycle(self, memory: &[u16]) -> Turn
-        ensures { λ r. ⌜ r ≡ oneCycle (now (memory .entry)) self ⌝ }
+    pub fn cycle(self, memory: &[u16]) -> Transition
+        ensures { λ r. ⌜ r ≡ cycleOf (now (memory .entry)) self ⌝ }
     {
         let clock = self.clock;
         if clock_full(clock, 1) {
@@ -553,40 +554,40 @@ impl Core {
     }
 
     // The cycle due, where the clock has room for it.
-    fn due_cycle(self, memory: &[u16]) -> Turn
+    fn due_cycle(self, memory: &[u16]) -> Transition
         requires { ⌜ self .clock .0 < 4294967295 ⌝ }
-        ensures { λ r. ⌜ r ≡ cycled (now (memory .entry)) self ⌝ }
+        ensures { λ r. ⌜ r ≡ dueCycle (now (memory .entry)) self ⌝ }
     {
         if self.due == 1 {
-            return self.fetch(memory).turn(false, Store::Nothing);
+            return self.fetch(memory).transition(false, Store::Nothing);
         }
         self.later_cycle(table::kind_of(self.hidden.ir), memory)
     }
 
     // One cycle, its store made.
-    fn advance_once(self, memory: &mut [u16]) -> Advance
+    fn cycle_on(self, memory: &mut [u16]) -> Moved
         requires { ⌜ self .clock .0 < 4294967295 ⌝ }
-        ensures { λ r. ⌜ reached r (now (memory .exit)) ≡ advanced (starting self (now (memory .entry))) ⌝ }
+        ensures { λ r. ⌜ reached r (now (memory .exit)) ≡ cycleOn (starting self (now (memory .entry))) ⌝ }
     {
-        let turn = self.due_cycle(memory);
-        let store = turn.store;
-        let core = turn.core;
+        let transition = self.due_cycle(memory);
+        let store = transition.store;
+        let core = transition.core;
         apply(store, memory);
-        Advance {
+        Moved {
             core: core,
             cycles: Cycles(1),
-            instructions: Instructions(count_of(turn.finished)),
+            instructions: Instructions(count_of(transition.finished)),
         }
     }
 
     // The state that whole instructions start from, with a budget.
-    fn rest(self, b: u32) -> State
-        ensures { λ r. ⌜ r ≡ restOf b self ⌝ }
+    fn working_from(self, b: u32) -> Working
+        ensures { λ r. ⌜ r ≡ workingFrom b self ⌝ }
     {
         let flags = self.flags;
         let hidden = self.hidden;
         let stop = self.stop;
-        State {
+        Working {
             pc: self.pc,
             sp: self.sp,
             flags: flags,
@@ -597,7 +598,7 @@ impl Core {
     }
 
     // The core with a state and a bank put into it, its clock on by the cycles used, and all else as it is.
-    fn joined(mut self, state: State, regs: [u16; 16], used: Cycles) -> Core
+    fn joined(mut self, state: Working, regs: [u16; 16], used: Cycles) -> Core
         requires { ⌜ self .clock .0 + used .0 ≤ 4294967295 ⌝ }
         ensures { λ r. ⌜ r ≡ joined self state regs (used .0) ⌝ }
     {
@@ -615,29 +616,29 @@ impl Core {
     }
 
     // At most `most` whole instructions of a core with cycle 1 due, each where it is going and what is left of the budget has room for one.
-    fn instructions(self, most: u32, b: u32, memory: &mut [u16]) -> Advance
+    fn instructions(self, most: u32, b: u32, memory: &mut [u16]) -> Moved
         requires { ⌜ (dueOne self ≡ true) × (self .clock .0 + b ≤ 4294967295) ⌝ }
         ensures { λ r. ⌜ reached r (now (memory .exit)) ≡ instructionsOn most b (starting self (now (memory .entry))) ⌝ }
     {
         let mut regs = self.regs;
-        let mut state = self.rest(b);
+        let mut state = self.working_from(b);
         let mut more = most;
-        while goes_on(state, more) {
+        while may_go_on(state, more) {
             state = state.instruct(&mut regs, memory);
             more -= 1;
         }
         let used = Cycles(b - state.left.0);
-        Advance {
+        Moved {
             core: self.joined(state, regs, used),
             cycles: used,
             instructions: Instructions(most - more),
         }
     }
 
-    // A turn of run's loop: whole instructions where cycle 1 is due and there is room for one, else one cycle.
-    fn advance(self, b: u32, memory: &mut [u16]) -> Advance
+    // A turn of run's loop: whole instructions where cycle 1 is due and there is room for one, else a cycle.
+    fn instructions_or_cycle(self, b: u32, memory: &mut [u16]) -> Moved
         requires { ⌜ (1 ≤ b) × (self .clock .0 + b ≤ 4294967295) ⌝ }
-        ensures { λ r. ⌜ reached r (now (memory .exit)) ≡ ahead b (starting self (now (memory .entry))) ⌝ }
+        ensures { λ r. ⌜ reached r (now (memory .exit)) ≡ instructionsOrCycle b (starting self (now (memory .entry))) ⌝ }
     {
         if LONGEST <= b {
             if self.one_due() {
@@ -646,7 +647,7 @@ impl Core {
                 return whole.instructions(b, b, memory);
             }
         }
-        self.advance_once(memory)
+        self.cycle_on(memory)
     }
 
     // The hidden registers zero.
@@ -774,10 +775,10 @@ impl Core {
         let mut used = Cycles(0);
         let mut finished = Instructions(0);
         while used.0 < b && self.goes() {
-            let ahead = self.advance(b - used.0, memory);
-            used.0 += ahead.cycles.0;
-            finished.0 += ahead.instructions.0;
-            let next = ahead.core;
+            let moved = self.instructions_or_cycle(b - used.0, memory);
+            used.0 += moved.cycles.0;
+            finished.0 += moved.instructions.0;
+            let next = moved.core;
             self = next;
         }
         self.ran(used, finished)

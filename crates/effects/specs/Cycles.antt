@@ -1,5 +1,5 @@
 -- Document 01, 'Datapath cycles': what the cycles 2, 3 and 4 do, by the instruction in IR. (The fetch of cycle 1, and which registers cycle 2
--- latches, are the core's.) Then an instruction at once, with what its cycles leave in the hidden registers.
+-- latches, are the core's.) Then a whole instruction, with what its cycles leave in the hidden registers.
 use Prim.Native.Nat.{ℕ}
 use mathlib.Core.List.{List}
 use Rattle.words.specs.Memory.{wordAt}
@@ -84,11 +84,11 @@ unlessStopping stop.the-variants.Undefined new old = old
 abbrev pub hiddenAfter : Stop → ℕ → ℕ → ℕ → ℕ → Hidden → Hidden
 hiddenAfter s w RA RB v h = withRalu v (withRaRb (unlessStopping s RA (h .ra)) (unlessStopping s RB (h .rb)) (withIr w h))
 
--- an instruction at once: what it does, and what its cycles leave in RALU
+-- a whole instruction: what it does, and what its cycles leave in RALU
 abbrev pub leaving : ℕ → Effect → Executed
 leaving RALU x = record { effect = x; ralu = RALU }
 
 -- what the table says of it, and the value that cycle 3 gives RALU, from IR, RA and RB as latched: RB takes Rt's value or Rb's, as the kind has it
-abbrev pub atOnce : Kind → ℕ → ℕ → ℕ → Hidden → List ℕ → Effect → Executed
-atOnce k w ra rb h M x =
+abbrev pub wholeInstruction : Kind → ℕ → ℕ → ℕ → Hidden → List ℕ → Effect → Executed
+wholeInstruction k w ra rb h M x =
     leaving (calculated k (withRaRb ra (secondRegister k (x .rt) rb) (withIr w h)) x .value) (executed k w ra rb M x)

@@ -4,7 +4,7 @@ ghost use mathlib.Core.Path.{_≡_};
 ghost use Rattle.alu.specs.Flags.{silent as quiet};
 ghost use Rattle.effects.specs.Effect.{toRt, toPc, toSp, stopping, storing, result, loaded, pushed};
 ghost use Rattle.effects.specs.Table.{jumped};
-ghost use Rattle.effects.specs.Cycles.{stopOf, calculated, writtenBack, unlessStopping, leaving, atOnce};
+ghost use Rattle.effects.specs.Cycles.{stopOf, calculated, writtenBack, unlessStopping, leaving, wholeInstruction};
 use alu::Outcome;
 use isa::Flags;
 use isa::Kind;
@@ -40,7 +40,7 @@ pub struct Effect {
     pub store: Store,
 }
 
-// What an instruction does at once, and what its cycles leave in RALU.
+// What a whole instruction does, and what its cycles leave in RALU.
 pub struct Executed {
     pub effect: Effect,
     pub ralu: u16,
@@ -176,7 +176,7 @@ pub fn execute(
     memory: &[u16],
     before: Effect,
 ) -> Executed
-    ensures { λ r. ⌜ r ≡ atOnce kind word ra rb hidden (now (memory .entry)) before ⌝ }
+    ensures { λ r. ⌜ r ≡ wholeInstruction kind word ra rb hidden (now (memory .entry)) before ⌝ }
 {
     let ralu = hidden.ralu;
     let flags = before.flags;

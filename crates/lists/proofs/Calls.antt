@@ -10,13 +10,14 @@ use lib.Dec.{eqb}
 use lib.ListN.{length}
 use Rattle.effects.specs.declared.Stop.{Stop}
 use Rattle.effects.specs.declared.Stop.the-variants.{Going, Halted, Undefined}
-use Rattle.core.specs.State.{visibleOf, freshCore}
+use Rattle.core.specs.Cores.{visibleOf, freshCore}
 use Rattle.core.specs.Spent.{dueOne}
-use Rattle.core.specs.Instruction.{after, memoryAfter, wordTakes, takes, instructed}
+use Rattle.core.specs.Instruction.{after, memoryAfter, wordTakes, takes, instructionEngine}
 use Rattle.refusals.specs.Refusals.{wrongLength}
 use Rattle.core.specs.Numbers.{isGoing, loadNumber, runNumber, stepNumber, viewNumber}
 use Rattle.core.specs.Calls as core
-use Rattle.core.specs.Calls.{ran, viewed, Progress, cyclesOn, starting, endOf}
+use Rattle.core.specs.Progress.{Progress, starting, cyclesOn}
+use Rattle.core.specs.Calls.{ran, viewed, endOf}
 use Rattle.core.specs.declared.Core.{Core}
 use Rattle.core.proofs.Spent.{due-of-spent}
 use Rattle.refusals.proofs.First.{none-applies}
@@ -105,9 +106,9 @@ module _ (c : Core) (m : Machine) (log : List Logged) (r : Related c m log) wher
 
   -- one instruction by both
   step-taken : m .spent ≡ 0
-      → Same (core.steppedReply (takes (m .memory) (visibleOf c)) (instructed (m .memory) c) (m .memory)) (stepped m)
+      → Same (core.steppedReply (takes (m .memory) (visibleOf c)) (instructionEngine (m .memory) c) (m .memory)) (stepped m)
       (stepped m .log ++ log)
-  unfolding instructed memoryAfter cyclesOf takes
+  unfolding instructionEngine memoryAfter cyclesOf takes
   step-taken none =
       let visible = visible-same r none in
       let clock = seen r .clock in

@@ -4,7 +4,7 @@ use mathlib.Core.List.{List, [], _∷_, _++_}
 use Prim.Native.Nat.{ℕ, _+_, _*_, _≤_}
 use native.Mathlib.Omega.{arith}
 use lib.ListN.{length, take, drop, length-append, take-append-drop}
-use Rattle.core.specs.State.{freshCore}
+use Rattle.core.specs.Cores.{freshCore}
 use Rattle.core.specs.Calls.{Answer}
 use Rattle.core.specs.declared.Core.{Core}
 use Rattle.layout.specs.Layout.{answerNumbers, written, NumberedReply, numbered}

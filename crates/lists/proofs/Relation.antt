@@ -5,11 +5,11 @@ use mathlib.Core.List.{List}
 use Prim.Native.Nat.{ℕ, _+_, _<_}
 use native.Mathlib.Omega.{arith}
 use lib.Dec.{eqb}
-use Rattle.core.specs.State.{Visible, visibleOf}
+use Rattle.core.specs.Cores.{Visible, visibleOf}
 use Rattle.core.specs.Spent.{spentOf, dueInRange, dueOne}
 use Rattle.core.specs.Instruction.{takes}
 use Rattle.core.specs.Numbers.{isGoing}
-use Rattle.core.specs.Calls.{Progress, cyclesOn, starting}
+use Rattle.core.specs.Progress.{Progress, starting, cyclesOn}
 use Rattle.core.specs.Theorems.{Midway}
 use Rattle.core.specs.declared.Core.{Core}
 use Rattle.core.proofs.Spent.{none-spent, range-when-one}

@@ -7,7 +7,7 @@ use native.Mathlib.Omega.{arith}
 use borrow.Author.Tests.{leb-true, le-leb}
 use lib.Dec.{leb}
 use lib.ListN.{length}
-use Rattle.core.specs.State.{freshCore}
+use Rattle.core.specs.Cores.{freshCore}
 use Rattle.layout.proofs.Written.{fitting}
 use Rattle.lists.specs.Theorem.{playCore}
 use Rattle.lists.specs.Replay.{Reading, listed, noCall, noStretch, numbersOf, over, machineReplay, replayed, replayGave, verdictOf, Playable, corePlayed}

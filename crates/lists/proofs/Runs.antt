@@ -10,11 +10,11 @@ use lib.Dec.{leb}
 use lib.ListN.{length}
 use Rattle.effects.specs.declared.Stop.{Stop}
 use Rattle.effects.specs.declared.Stop.the-variants.{Going, Halted, Undefined}
-use Rattle.core.specs.State.{visibleOf}
+use Rattle.core.specs.Cores.{visibleOf}
 use Rattle.core.specs.Spent.{dueOne}
 use Rattle.core.specs.Instruction.{wordDue, takes}
 use Rattle.core.specs.Numbers.{isGoing}
-use Rattle.core.specs.Calls.{Progress, cyclesOn, starting}
+use Rattle.core.specs.Progress.{Progress, starting, cyclesOn}
 use Rattle.core.specs.declared.Core.{Core}
 use Rattle.core.proofs.Cycles.{only-going, no-cycle, none-more, cycles-add, counted, cycles-counted, cost-range}
 use Rattle.core.proofs.OneInstruction.{Finished, one-finished, one-instruction}

@@ -3,7 +3,7 @@ use mathlib.Core.Path.{_≡_, refl, sym, subst, _∙_}
 use mathlib.Core.List.{List, [], _∷_}
 use Prim.Native.Nat.{ℕ}
 use native.Mathlib.Omega.{arith}
-use Rattle.core.specs.State.{freshCore}
+use Rattle.core.specs.Cores.{freshCore}
 use Rattle.core.specs.Calls.{Answer}
 use Rattle.core.specs.declared.Core.{Core}
 use Rattle.lists.specs.Machine.{Machine, Logged, cyclesOf, freshMachine}

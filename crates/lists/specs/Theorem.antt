@@ -15,7 +15,7 @@ use mathlib.Core.Path.{_≡_}
 use mathlib.Core.Bool.{true}
 use mathlib.Core.List.{List, [], _∷_, _++_}
 use Prim.Native.Nat.{ℕ, _+_, _≤_}
-use Rattle.core.specs.State.{visibleOf, freshCore}
+use Rattle.core.specs.Cores.{visibleOf, freshCore}
 use Rattle.core.specs.Spent.{spentOf, dueInRange}
 use Rattle.core.specs.Calls as core
 use Rattle.core.specs.declared.Core.{Core}

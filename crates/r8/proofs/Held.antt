@@ -13,12 +13,13 @@ use Rattle.effects.specs.Cycles.{stopOf}
 use Rattle.effects.specs.declared.Stop.{Stop}
 use Rattle.effects.specs.declared.Stop.the-variants.{Going, Halted, Undefined}
 use Rattle.core.specs.Spent.{dueOne, dueInRange}
-use Rattle.core.specs.Datapath.{second, laterCycle, cycled}
-use Rattle.core.specs.Instruction.{after, instructed}
+use Rattle.core.specs.Datapath.{second, laterCycle, dueCycle}
+use Rattle.core.specs.Instruction.{after, instructionEngine}
 use Rattle.core.specs.Numbers.{isGoing, runNumber, stepNumber}
-use Rattle.core.specs.Calls.{Reply, Progress, advanced, cyclesOn, starting, run, step}
+use Rattle.core.specs.Progress.{Progress, starting, cycleOn, cyclesOn}
+use Rattle.core.specs.Calls.{Reply, run, step}
 use Rattle.core.specs.declared.Core.{Core}
-use Rattle.core.specs.declared.Turn.{Turn}
+use Rattle.core.specs.declared.Transition.{Transition}
 use Rattle.core.proofs.Cycles.{no-cycle, one-more, none-more}
 use Rattle.core.proofs.Spent.{due-when}
 use Rattle.core.proofs.Refusals.{ready}
@@ -34,21 +35,21 @@ second-bank Going kind core = refl
 second-bank Halted kind core = refl
 second-bank Undefined kind core = refl
 
-cycle-bank : (memory : List ℕ) (core : Core) → length (cycled memory core .core .regs) ≡ length (core .regs)
-unfolding cycled laterCycle
+cycle-bank : (memory : List ℕ) (core : Core) → length (dueCycle memory core .core .regs) ≡ length (core .regs)
+unfolding dueCycle laterCycle
 cycle-bank memory core =
     let kind = kindOf (core .hidden .ir) in
-    let same : Turn → Type 0 = λ t. length (t .core .regs) ≡ length (core .regs) in
+    let same : Transition → Type 0 = λ t. length (t .core .regs) ≡ length (core .regs) in
     either same (eqb (core .due) 1) (λ _. refl)
     (either same (eqb (core .due) 2) (λ _. second-bank (stopOf kind) kind core)
     (either same (eqb (core .due) 3) (λ _. refl) (either same (eqb (core .due) 4) (λ _. length-set (core .regs) _ _) refl)))
 
 cycles-bank : (n : ℕ) (p : Progress) → length (cyclesOn n p .core .regs) ≡ length (p .core .regs)
-unfolding advanced
+unfolding cycleOn
 cycles-bank zero p = rw (no-cycle p) refl
-cycles-bank (suc n) p = by (isGoing (p .core .stop)) refl (cycles-bank n (advanced p))
+cycles-bank (suc n) p = by (isGoing (p .core .stop)) refl (cycles-bank n (cycleOn p))
   where
-    by : (g : Bool) → isGoing (p .core .stop) ≡ g → length (cyclesOn n (advanced p) .core .regs) ≡ length (advanced p .core .regs)
+    by : (g : Bool) → isGoing (p .core .stop) ≡ g → length (cyclesOn n (cycleOn p) .core .regs) ≡ length (cycleOn p .core .regs)
         → length (cyclesOn (suc n) p .core .regs) ≡ length (p .core .regs)
     by true g ih = rw (one-more n p g) (ih ∙ cycle-bank (p .memory) (p .core))
     by false g ih = rw (none-more (suc n) p g) refl
@@ -65,7 +66,7 @@ run-held core memory b h =
     h
 
 pub step-held : (core : Core) (memory : List ℕ) → Held core → Held (step core memory .core)
-unfolding step held instructed after
+unfolding step held instructionEngine after
 step-held core memory h =
     either held (eqb (stepNumber (length memory) (core .stop) (dueOne core) (core .clock .0)) 0)
     (λ _. (length-set (core .regs) _ _ ∙ h .0, omega arith))

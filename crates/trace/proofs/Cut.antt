@@ -11,12 +11,13 @@ use lib.Dec.{leb}
 use lib.ListN.{length}
 use Rattle.words.specs.Memory.{wordAt}
 use Rattle.effects.specs.declared.Stop.the-variants.{Going}
-use Rattle.core.specs.State.{Visible, visibleOf}
+use Rattle.core.specs.Cores.{Visible, visibleOf}
 use Rattle.core.specs.Spent.{spentOf, dueOne}
-use Rattle.core.specs.Instruction.{after, memoryAfter, takes, instructed}
+use Rattle.core.specs.Instruction.{after, memoryAfter, takes, instructionEngine}
 use Rattle.refusals.specs.Refusals.{wrongLength}
 use Rattle.core.specs.Numbers.{isGoing, runNumber}
-use Rattle.core.specs.Calls.{Reply, Progress, advanced, cyclesOn, steppedReply, step}
+use Rattle.core.specs.Progress.{Progress, cycleOn, cyclesOn}
+use Rattle.core.specs.Calls.{Reply, steppedReply, step}
 use Rattle.core.specs.declared.Core.{Core}
 use Rattle.core.proofs.Spent.{none-spent}
 use Rattle.core.proofs.Cycles.{no-cycle, one-more, none-more, cycles-add, only-going, cost-range}
@@ -29,11 +30,11 @@ use Rattle.trace.specs.Theorems.{cyclesIn}
 
 -- instructions finished stay finished
 grows : (n : ℕ) (p : Progress) → p .finished ≤ cyclesOn n p .finished
-unfolding advanced
+unfolding cycleOn
 grows zero p = rw (no-cycle p) (omega arith)
-grows (suc n) p = by (isGoing (p .core .stop)) refl (grows n (advanced p))
+grows (suc n) p = by (isGoing (p .core .stop)) refl (grows n (cycleOn p))
   where
-    by : (g : Bool) → isGoing (p .core .stop) ≡ g → advanced p .finished ≤ cyclesOn n (advanced p) .finished
+    by : (g : Bool) → isGoing (p .core .stop) ≡ g → cycleOn p .finished ≤ cyclesOn n (cycleOn p) .finished
         → p .finished ≤ cyclesOn (suc n) p .finished
     by true g ih = rw (one-more n p g) (omega arith)
     by false g ih = rw (none-more (suc n) p g) (omega arith)
@@ -66,7 +67,7 @@ module _ (q : Progress) (core : Core) (memory : List ℕ) (b : ℕ) (s : Same q 
   cost : takes (q .memory) (visibleOf (q .core)) ≡ takes memory (visibleOf core)
   cost = λ j. takes (s .words j) (s .visible j)
 
-  step-is : core .stop ≡ Going → step core memory ≡ steppedReply (takes memory (visibleOf core)) (instructed memory core) memory
+  step-is : core .stop ≡ Going → step core memory ≡ steppedReply (takes memory (visibleOf core)) (instructionEngine memory core) memory
   unfolding runNumber
   step-is going =
       let size : wrongLength (length memory) ≡ false = ap wrongLength (s .size) in
@@ -79,7 +80,7 @@ module _ (q : Progress) (core : Core) (memory : List ℕ) (b : ℕ) (s : Same q 
       ∙ none-left)
 
   taken : q .core .stop ≡ Going → takes memory (visibleOf core) ≤ b → Next q core memory b (takes memory (visibleOf core))
-  unfolding instructed memoryAfter
+  unfolding instructionEngine memoryAfter
   taken going within =
       let c = takes memory (visibleOf core) in
       let f = rw cost at (one-finished q going (s .due)) in
@@ -98,7 +99,7 @@ module _ (q : Progress) (core : Core) (memory : List ℕ) (b : ℕ) (s : Same q 
               words = f .memory ∙ (λ j. memoryAfter (s .words j) (s .visible j)) ∙ sym put;
               due = f .due;
               one = ap (λ (r : Reply). dueOne (r .core)) stepped;
-              size = ap length put ∙ applied-length (instructed memory core .store) memory ∙ s .size;
+              size = ap length put ∙ applied-length (instructionEngine memory core .store) memory ∙ s .size;
               room = omega (arith, s .room, ap (λ (r : Reply). r .core .clock .0) stepped);
             };
         finished = f .finished;

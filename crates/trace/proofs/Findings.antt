@@ -14,11 +14,12 @@ use Rattle.listing.specs.Listing.{Check, sound, faulty, memoryOf, checkOf, stor
 use Rattle.listing.proofs.Stores.{length-lines}
 use Rattle.listing.specs.declared.Fault.{Fault}
 use Rattle.isa.specs.declared.Cycles.{Cycles}
-use Rattle.core.specs.State.{freshCore}
+use Rattle.core.specs.Cores.{freshCore}
 use Rattle.refusals.specs.Refusals.{refusalNumber, wrongLength, firstNumber}
 use Rattle.core.specs.Numbers.{loadNumber, runNumber}
 use Rattle.core.specs.Spent.{dueOne}
-use Rattle.core.specs.Calls.{Answer, ran, refused, refusedAt, Reply, loadAnswer, load, loadedReply, cyclesOn, starting, ranReply, run}
+use Rattle.core.specs.Progress.{starting, cyclesOn}
+use Rattle.core.specs.Calls.{Answer, ran, refused, refusedAt, Reply, loadAnswer, load, loadedReply, ranReply, run}
 use Rattle.core.specs.declared.End.{End}
 use Rattle.core.specs.Answers.{loadAnswerOf, loadGave, runAnswerOf, runGave}
 use Rattle.core.specs.declared.Core.{Core}

@@ -6,9 +6,10 @@ use native.Mathlib.Numerals.{add-one}
 use native.Mathlib.Omega.{arith}
 use lib.Dec.{lit≤}
 use lib.ListN.{length}
-use Rattle.core.specs.State.{freshCore}
+use Rattle.core.specs.Cores.{freshCore}
 use Rattle.core.specs.Spent.{spentOf, dueInRange, dueOne}
-use Rattle.core.specs.Calls.{Reply, cyclesOn, starting, ranReply, run}
+use Rattle.core.specs.Progress.{starting, cyclesOn}
+use Rattle.core.specs.Calls.{Reply, ranReply, run}
 use Rattle.core.proofs.Again.{due-stays}
 use Rattle.trace.specs.Trace.{cyclesOf, instructionsOf, rowsOf, noRoom}
 use Rattle.trace.specs.Theorems.{cyclesIn, RowsOfTheRun, CyclesAddUp, RoomAlways}

@@ -6,7 +6,7 @@ use mathlib.Core.List.{List, [], _∷_, _++_}
 use Prim.Native.Nat.{ℕ, _+_, _≤_, _<_}
 use lib.ListN.{length}
 use Rattle.words.specs.Memory.{wordAt}
-use Rattle.core.specs.State.{visibleOf, freshCore}
+use Rattle.core.specs.Cores.{visibleOf, freshCore}
 use Rattle.core.specs.Spent.{spentOf, dueInRange, dueOne}
 use Rattle.core.specs.Instruction.{takes}
 use Rattle.core.specs.Calls.{Reply, run}

@@ -6,7 +6,7 @@ use lib.Dec.{ltb}
 use lib.ListN.{length, drop, replicate}
 use Rattle.words.specs.Memory.{wordAt}
 use Rattle.listing.specs.Answers.{faultNumber}
-use Rattle.core.specs.State.{freshCore}
+use Rattle.core.specs.Cores.{freshCore}
 use Rattle.core.specs.Calls.{Answer, done, stored, ran, viewed, refused, refusedAt, Reply, load, run, step}
 use Rattle.core.specs.declared.Core.{Core}
 use Rattle.layout.specs.Layout.{flagsNumber}

@@ -12,7 +12,7 @@ returns c =
     let a = c .before .before .before .before .args in
     c .with-result .ensures
     ∙ ap (λ (outcome : Outcome). withResult outcome (a .self))
-    (c .before .calculate .ensures ∙ ap (calculated (a .kind) (a .self .hidden)) (c .before .before .reach .ensures))
+    (c .before .calculate .ensures ∙ ap (calculated (a .kind) (a .self .hidden)) (c .before .before .effect-before .ensures))
 
 pub calculate-spec : {M : Type 1} → statement M
 calculate-spec =

@@ -5,14 +5,14 @@ use native.Mathlib.Omega.{arith}
 use borrow.Author.Needs.{needs}
 use Rattle.isa.specs.declared.Kind.{Kind}
 use Rattle.effects.specs.declared.Store.the-variants.{Nothing}
-use Rattle.core.specs.Datapath.{turn, laterCycle}
+use Rattle.core.specs.Datapath.{transition, laterCycle}
 use Rattle.core.specs.declared.Core.{Core}
 use Rattle.core.proofs.Cycles.{first-cycle, later}
 use Rattle.core.proofs.Core.due_cycle.Statement.{statement}
 use Rattle.core.proofs.Core.due_cycle.Tie as tie
 
-turn-requires : tie.Need-turn-requires
-turn-requires c κs =
+transition-requires : tie.Need-transition-requires
+transition-requires c κs =
     let clock = ap (λ (core : Core). core .clock .0) (c .fetch .ensures) in
     let due = ap (λ (core : Core). core .due) (c .fetch .ensures) in
     let start = c .before .before .before .before in
@@ -21,8 +21,8 @@ turn-requires c κs =
 returns : tie.Need-returns
 returns c =
     let a = c .before .before .before .before .before .args in
-    c .turn .ensures
-    ∙ ap (λ (core : Core). turn false core Nothing) (c .before .fetch .ensures)
+    c .transition .ensures
+    ∙ ap (λ (core : Core). transition false core Nothing) (c .before .fetch .ensures)
     ∙ sym (first-cycle (a .memory .now) (a .self) (c .before .before .if1 .taken))
 
 returns-2 : tie.Need-returns-2
@@ -37,7 +37,7 @@ due-cycle-spec =
     tie.close
     (tie.spec
     (λ c κs. search needs)
-    turn-requires
+    transition-requires
     returns
     (λ c κs. search needs) (λ c κs. search needs)
     returns-2)

@@ -8,18 +8,18 @@ use native.Mathlib.Nat.{add-zero}
 use borrow.Author.Needs.{needs}
 use lib.Dec.{ltb}
 use lib.ListN.{length}
-use Rattle.core.specs.State.{withClock}
-use Rattle.core.specs.Calls.{Progress, starting}
-use Rattle.core.specs.AtOnce.{seen, joined, goesOn, instructionsOn}
+use Rattle.core.specs.Cores.{withClock}
+use Rattle.core.specs.Progress.{Progress, starting}
+use Rattle.core.specs.WholeInstructions.{seen, joined, mayGoOn, instructionsOn}
 use Rattle.core.specs.declared.Core.{Core}
-use Rattle.core.specs.declared.State.{State}
+use Rattle.core.specs.declared.Working.{Working}
 use Rattle.core.proofs.Cycles.{cost-range}
-use Rattle.core.proofs.AtOnce.{bank-length, memory-length, under, past-one, one-asked, next-one, none-asked}
+use Rattle.core.proofs.WholeInstructions.{bank-length, memory-length, under, past-one, one-asked, next-one, none-asked}
 use Rattle.core.proofs.Core.instructions.Statement.{statement}
 use Rattle.core.proofs.Core.instructions.Tie as tie
 
 -- instructions of a budget b under way, with some more of those that are asked
-record Underway (whole : Progress) (core : Core) (before : List ℕ) (most b : ℕ) (state : State) (regs memory : List ℕ) (more : ℕ) : Type 0 where
+record Underway (whole : Progress) (core : Core) (before : List ℕ) (most b : ℕ) (state : Working) (regs memory : List ℕ) (more : ℕ) : Type 0 where
   rest : whole ≡ instructionsOn more b (under core state regs memory b (most - more))
   some : more ≤ most
   size : length memory ≡ length before
@@ -36,12 +36,12 @@ abbrev μ-loop : tie.MeasureT-loop
 loop-holds : tie.Need-loop-holds Inv-loop μ-loop
 loop-holds c =
     let a = c .before .before .before .args in
-    let state = c .rest .ensures in
-    let left = ap (λ (s : State). s .left .0) state in
+    let state = c .working-from .ensures in
+    let left = ap (λ (s : Working). s .left .0) state in
     let none : 0 ≡ a .most - a .most = omega arith in
-    let used : 0 ≡ a .b - c .rest .result .left .0 = omega (arith, left) in
+    let used : 0 ≡ a .b - c .working-from .result .left .0 = omega (arith, left) in
     let clock = sym (add-zero (a .self .clock .0)) in
-    let core : a .self ≡ joined (a .self) (c .rest .result) (a .self .regs) (a .b - c .rest .result .left .0) =
+    let core : a .self ≡ joined (a .self) (c .working-from .result) (a .self .regs) (a .b - c .working-from .result .left .0) =
     (λ j. withClock (clock j) (a .self)) ∙ (λ j. joined (a .self) (sym state j) (a .self .regs) (used j)) in
     record {
       rest = λ j. instructionsOn (a .most) (a .b) (record { core = core j; memory = a .memory .now; used = used j; finished = none j });
@@ -58,19 +58,19 @@ instruct-requires : tie.Need-instruct-requires Inv-loop μ-loop
 instruct-requires c κs =
     let test = c .before .before .before in
     let l = test .before .loop in
-    one-asked (l .state) (l .more) (sym (test .goes-on .ensures) ∙ c .before .before .if1 .taken) .1
+    one-asked (l .state) (l .more) (sym (test .may-go-on .ensures) ∙ c .before .before .if1 .taken) .1
 
 sub-more : tie.Need-sub-more Inv-loop μ-loop
 sub-more c =
     let test = c .before .before .before .before .before .before .before in
     let l = test .before .loop in
-    omega (arith, one-asked (l .state) (l .more) (sym (test .goes-on .ensures) ∙ c .before .before .before .before .before .before .if1 .taken) .2)
+    omega (arith, one-asked (l .state) (l .more) (sym (test .may-go-on .ensures) ∙ c .before .before .before .before .before .before .if1 .taken) .2)
 
 loop-less : tie.Need-loop-less Inv-loop μ-loop
 loop-less c =
     let test = c .before .before .before .before .before .before .before in
     let l = test .before .loop in
-    omega (arith, one-asked (l .state) (l .more) (sym (test .goes-on .ensures) ∙ c .before .before .before .before .before .before .if1 .taken) .2)
+    omega (arith, one-asked (l .state) (l .more) (sym (test .may-go-on .ensures) ∙ c .before .before .before .before .before .before .if1 .taken) .2)
 
 loop-again : tie.Need-loop-again Inv-loop μ-loop
 loop-again c =
@@ -80,11 +80,11 @@ loop-again c =
     let i = l .inv in
     let at = test .before .before in
     let a = at .before .before .before .args in
-    let goes = one-asked (l .state) (l .more) (sym (test .goes-on .ensures) ∙ n .before .before .before .if1 .taken) in
+    let goes = one-asked (l .state) (l .more) (sym (test .may-go-on .ensures) ∙ n .before .before .before .if1 .taken) in
     let asked = goes .2 in
     let cost = cost-range (l .memory) (seen (l .state) (l .regs)) in
     let done = n .instruct .ensures in
-    let left = ap (λ (s : State). s .left .0) (done .0) in
+    let left = ap (λ (s : Working). s .left .0) (done .0) in
     let same : a .b - (a .b - l .state .left .0) ≡ l .state .left .0 = omega (arith, i .within) in
     let more : l .more ≡ suc (l .more - 1) = omega (arith, asked) in
     let counted : a .most - (l .more - 1) ≡ a .most - l .more + 1 = omega (arith, i .some, asked) in
@@ -95,7 +95,7 @@ loop-again c =
       rest =
           i .rest
           ∙ ap (λ (n : ℕ). instructionsOn n (a .b) (under (a .self) (l .state) (l .regs) (l .memory) (a .b) (a .most - l .more))) more
-          ∙ next-one _ (a .b) _ _ (ap (goesOn (l .state .stop)) same ∙ goes .0) next;
+          ∙ next-one _ (a .b) _ _ (ap (mayGoOn (l .state .stop)) same ∙ goes .0) next;
       some = omega (arith, i .some);
       size = ap length (done .2) ∙ memory-length (l .memory) (seen (l .state) (l .regs)) ∙ i .size;
       bank = ap length (done .1) ∙ bank-length (l .memory) (l .regs) (l .state) ∙ i .bank;
@@ -124,8 +124,8 @@ returns c =
     let core = c .joined .ensures in
     let n = l .loop .more in
     let p = under (a .self) s (l .loop .regs) (l .loop .memory) (a .b) (a .most - n) in
-    let test = sym (c .before .before .before .goes-on .ensures) ∙ c .before .before .if1 .left in
-    let over = none-asked n (a .b) p (ap (λ (left : ℕ). cond (goesOn (s .stop) left) (ltb 0 n) false) same ∙ test) in
+    let test = sym (c .before .before .before .may-go-on .ensures) ∙ c .before .before .if1 .left in
+    let over = none-asked n (a .b) p (ap (λ (left : ℕ). cond (mayGoOn (s .stop) left) (ltb 0 n) false) same ∙ test) in
     (λ j. record { core = core j; memory = l .loop .memory; used = a .b - s .left .0; finished = a .most - n })
     ∙ sym (i .rest ∙ over)
 

@@ -2,7 +2,7 @@
 use mathlib.Core.Path.{ap, ap₂, _∙_}
 use Rattle.isa.specs.Control.{secondRegister}
 use Rattle.effects.specs.Hidden.{withRaRb}
-use Rattle.core.specs.State.{withHidden, register}
+use Rattle.core.specs.Cores.{withHidden, register}
 use borrow.Author.Needs.{needs}
 use Rattle.core.proofs.Core.latch.Statement.{statement}
 use Rattle.core.proofs.Core.latch.Tie as tie

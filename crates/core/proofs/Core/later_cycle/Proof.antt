@@ -2,7 +2,7 @@
 use mathlib.Core.Path.{ap, sym, _∙_}
 use native.Mathlib.Omega.{arith}
 use borrow.Author.Needs.{needs}
-use Rattle.core.specs.Datapath.{isLast, withEffect, turn}
+use Rattle.core.specs.Datapath.{isLast, withEffect, transition}
 use Rattle.core.specs.declared.Core.{Core}
 use Rattle.effects.specs.declared.Store.the-variants.{Nothing}
 use Rattle.effects.specs.declared.Effect.{Effect}
@@ -11,8 +11,8 @@ use Rattle.core.proofs.Cycles.{second-cycle, third-cycle, fourth-cycle,
 use Rattle.core.proofs.Core.later_cycle.Statement.{statement}
 use Rattle.core.proofs.Core.later_cycle.Tie as tie
 
-turn-requires : tie.Need-turn-requires
-turn-requires c κs =
+transition-requires : tie.Need-transition-requires
+transition-requires c κs =
     let before = c .before .before .before .before .args in
     let keeps = second-keeps (stopOf (before .kind)) (before .kind) (before .self) in
     let clock = ap (λ (core : Core). core .clock .0) (c .stop-or-latch .ensures) ∙ keeps .0 in
@@ -24,12 +24,12 @@ returns c =
     let before = c .before .before .before .before .before .args in
     let last = c .before .before .before .is-last .ensures in
     let core = c .before .stop-or-latch .ensures in
-    c .turn .ensures
-    ∙ (λ j. turn (last j) (core j) Nothing)
+    c .transition .ensures
+    ∙ (λ j. transition (last j) (core j) Nothing)
     ∙ sym (second-cycle (before .memory .now) (before .self) (before .kind) (c .before .before .if1 .taken))
 
-turn-requires-2 : tie.Need-turn-requires-2
-turn-requires-2 c κs =
+transition-requires-2 : tie.Need-transition-requires-2
+transition-requires-2 c κs =
     let clock = ap (λ (core : Core). core .clock .0) (c .calculate .ensures) in
     let due = ap (λ (core : Core). core .due) (c .calculate .ensures) in
     (omega (arith, c .before .before .before .before .before .pre), omega (arith, c .before .if2 .taken))
@@ -39,12 +39,12 @@ returns-2 c =
     let before = c .before .before .before .before .before .before .args in
     let last = c .before .before .before .before .is-last .ensures in
     let core = c .before .calculate .ensures in
-    c .turn2 .ensures
-    ∙ (λ j. turn (last j) (core j) Nothing)
+    c .transition2 .ensures
+    ∙ (λ j. transition (last j) (core j) Nothing)
     ∙ sym (third-cycle (before .memory .now) (before .self) (before .kind) (c .before .before .if2 .taken))
 
-turn-requires-3 : tie.Need-turn-requires-3
-turn-requires-3 c κs =
+transition-requires-3 : tie.Need-transition-requires-3
+transition-requires-3 c κs =
     let clock = ap (λ (core : Core). core .clock .0) (c .with-effect .ensures) in
     let due = ap (λ (core : Core). core .due) (c .with-effect .ensures) in
     let three = c .before .before .before .before in
@@ -58,11 +58,11 @@ returns-3 c =
     let self = before .self in
     let effect =
     c .before .before .write-back .ensures
-    ∙ ap (writtenBack (before .kind) (self .hidden) (before .memory .now)) (c .before .before .before .reach .ensures) in
+    ∙ ap (writtenBack (before .kind) (self .hidden) (before .memory .now)) (c .before .before .before .effect-before .ensures) in
     let core = c .before .with-effect .ensures in
-    c .turn3 .ensures
-    ∙ (λ j. turn (last j) (core j) (c .before .before .write-back .result .store))
-    ∙ ap (λ (effect : Effect). turn (isLast (before .kind) self) (withEffect effect self) (effect .store)) effect
+    c .transition3 .ensures
+    ∙ (λ j. transition (last j) (core j) (c .before .before .write-back .result .store))
+    ∙ ap (λ (effect : Effect). transition (isLast (before .kind) self) (withEffect effect self) (effect .store)) effect
     ∙ sym (fourth-cycle (before .memory .now) self (before .kind) (three .if3 .taken))
 
 returns-4 : tie.Need-returns-4
@@ -77,13 +77,13 @@ later-cycle-spec =
     tie.close
     (tie.spec
     (λ c κs. search needs) (λ c κs. search needs)
-    turn-requires
+    transition-requires
     returns
     (λ c κs. search needs)
-    turn-requires-2
+    transition-requires-2
     returns-2
     (λ c κs. search needs) (λ c κs. search needs) (λ c κs. search needs)
-    turn-requires-3
+    transition-requires-3
     returns-3
     (λ c κs. search needs)
     returns-4)

@@ -9,15 +9,25 @@ use Prim.Native.Nat.{ℕ, _+_, _-_, _≤_}
 use lib.ListN.{length}
 use Rattle.core.specs.Spent.{dueInRange}
 use Rattle.core.specs.Numbers.{runNumber}
-use Rattle.core.specs.Calls.{Reply, Progress, cyclesOn, ranReply, run}
+use Rattle.core.specs.Progress.{Progress, cyclesOn}
+use Rattle.core.specs.Calls.{Reply, ranReply, run}
 use Rattle.refusals.specs.Refusals.{verdictNumber}
+use Rattle.core.specs.WholeInstructions.{reached}
 use Rattle.core.specs.declared.Core.{Core}
 use Rattle.core.proofs.Refusals.{ready}
 use Rattle.core.proofs.Cycles.{none-more}
 use Rattle.core.proofs.Replies.{refused-reply, run-starts, run-over}
-use Rattle.core.proofs.AtOnce.{onward}
+use Rattle.core.proofs.WholeInstructions.{Onward, onward}
 use Rattle.core.proofs.Core.run.Statement.{statement}
 use Rattle.core.proofs.Core.run.Tie as tie
+use Rattle.core.proofs.Core.run.Lts as lts
+use Rattle.core.proofs.Core.run.Reads as reads
+use Rattle.core.proofs.Core.due_in_range.Reads as due-in-range-reads
+use Rattle.core.proofs.run_verdict.Reads as run-verdict-reads
+use Rattle.core.proofs.Core.run_refused.Reads as run-refused-reads
+use Rattle.core.proofs.Core.goes.Reads as goes-reads
+use Rattle.core.proofs.Core.instructions_or_cycle.Reads as part-reads
+use Rattle.core.proofs.Core.ran.Reads as ran-reads
 
 -- a run of b cycles under way: the cycles left give the reply of the whole
 record Reached (reply : Reply) (before : List ℕ) (b : ℕ) (p : Progress) : Type 0 where
@@ -67,62 +77,51 @@ loop-holds c =
       due = ready .due;
     }
 
-sub-advance : tie.Need-sub-advance Inv-loop μ-loop
-sub-advance c = omega (arith, c .before .before .before .if1 .taken)
+sub-instructions-or-cycle : tie.Need-sub-instructions-or-cycle Inv-loop μ-loop
+sub-instructions-or-cycle c = omega (arith, c .before .before .before .if1 .taken)
 
-advance-requires : tie.Need-advance-requires Inv-loop μ-loop
-advance-requires c κs =
+instructions-or-cycle-requires : tie.Need-instructions-or-cycle-requires Inv-loop μ-loop
+instructions-or-cycle-requires c κs =
     let l = c .before .before .before .before in
     (omega (arith, l .if1 .taken), l .before .before .loop .inv .room)
+
+-- a turn of the loop, from where its call has returned
+moved : (n : lts.After-instructions-or-cycle (due-in-range-reads.Asked, due-in-range-reads.Learnt, run-verdict-reads.Asked, run-verdict-reads.Learnt, run-refused-reads.Asked, run-refused-reads.Learnt, goes-reads.Asked, goes-reads.Learnt, part-reads.Asked, part-reads.Learnt, ran-reads.Asked, ran-reads.Learnt) reads.Pre reads.Post Inv-loop μ-loop)
+    → let l = n .before .before .before .before .before .before .before .loop in
+    Onward (n .before .before .before .before .before .before .before .before .before .before .before .before .before .before .args .b) (progress (l .self) (l .memory) (l .used .0) (l .finished .0))
+    (reached (n .instructions-or-cycle .result) (n .instructions-or-cycle .last .1 .1 .0))
+moved n =
+    let test = n .before .before .before .before in
+    let l = test .before .before .before .loop in
+    onward _ (progress (l .self) (l .memory) (l .used .0) (l .finished .0)) _ (sym (test .goes .ensures) ∙ n .before .before .before .if2 .taken)
+    (test .before .if1 .taken) (l .inv .due) (n .instructions-or-cycle .ensures)
 
 add-used : tie.Need-add-used Inv-loop μ-loop
 add-used c =
     let n = c .before .before .before .before in
-    let test = n .before .before .before .before in
-    let l = test .before .before .before .loop in
-    let below = test .before .if1 .taken in
-    let going = sym (test .goes .ensures) ∙ n .before .before .before .if2 .taken in
-    let p = progress (l .self) (l .memory) (l .used .0) (l .finished .0) in
-    let on = onward _ p _ going below (l .inv .due) (n .advance .ensures) in
-    omega (arith, below, on .most, test .before .before .before .before .before .before .before .before .before .before .fits .b)
+    omega (arith, moved n .below, moved n .most, n .before .before .before .before .before .before .before .before .before .before .before .before .before .before .fits .b)
 
 add-finished : tie.Need-add-finished Inv-loop μ-loop
 add-finished c =
     let n = c .before .before .before .before .before .before in
-    let test = n .before .before .before .before in
-    let l = test .before .before .before .loop in
-    let below = test .before .if1 .taken in
-    let going = sym (test .goes .ensures) ∙ n .before .before .before .if2 .taken in
-    let p = progress (l .self) (l .memory) (l .used .0) (l .finished .0) in
-    let on = onward _ p _ going below (l .inv .due) (n .advance .ensures) in
-    omega (arith, below, on .most, on .few, l .inv .few, test .before .before .before .before .before .before .before .before .before .before .fits .b)
+    omega (arith, moved n .below, moved n .most, moved n .few, n .before .before .before .before .before .before .before .loop .inv .few, n .before .before .before .before .before .before .before .before .before .before .before .before .before .before .fits .b)
 
 loop-less : tie.Need-loop-less Inv-loop μ-loop
 loop-less c =
-    let n = c .before .before .before .before .before .before .before in
-    let test = n .before .before .before .before in
-    let l = test .before .before .before .loop in
-    let below = test .before .if1 .taken in
-    let going = sym (test .goes .ensures) ∙ n .before .before .before .if2 .taken in
-    let p = progress (l .self) (l .memory) (l .used .0) (l .finished .0) in
-    let on = onward _ p _ going below (l .inv .due) (n .advance .ensures) in
-    omega (arith, below, on .some)
+    let on = moved (c .before .before .before .before .before .before .before) in
+    omega (arith, on .below, on .some)
 
 loop-again : tie.Need-loop-again Inv-loop μ-loop
 loop-again c =
     let n = c .before .before .before .before .before .before .before in
-    let test = n .before .before .before .before in
-    let l = test .before .before .before .loop in
-    let below = test .before .if1 .taken in
-    let going = sym (test .goes .ensures) ∙ n .before .before .before .if2 .taken in
-    let p = progress (l .self) (l .memory) (l .used .0) (l .finished .0) in
-    let on = onward _ p _ going below (l .inv .due) (n .advance .ensures) in
+    let l = n .before .before .before .before .before .before .before .loop in
+    let on = moved n in
     record {
       left = l .inv .left ∙ ap ranReply (on .left);
       size = on .size ∙ l .inv .size;
       few = omega (arith, on .few, l .inv .few);
-      within = omega (arith, below, on .most);
-      room = omega (arith, below, on .most, on .clock, l .inv .room);
+      within = omega (arith, on .below, on .most);
+      room = omega (arith, on .below, on .most, on .clock, l .inv .room);
       due = on .due;
     }
 
@@ -152,8 +151,8 @@ run-spec =
     (λ c. search needs)
     loop-holds
     (λ c κs. search needs)
-    sub-advance
-    advance-requires
+    sub-instructions-or-cycle
+    instructions-or-cycle-requires
     add-used
     add-finished
     loop-less

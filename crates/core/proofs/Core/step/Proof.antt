@@ -5,14 +5,14 @@ use borrow.Author.Needs.{needs}
 use Prim.Native.Nat.{ℕ}
 use lib.ListN.{length}
 use Rattle.effects.specs.Hidden.{noHidden}
-use Rattle.core.specs.State.{withHidden}
+use Rattle.core.specs.Cores.{withHidden}
 use Rattle.core.specs.Spent.{dueOne}
 use Rattle.core.specs.Numbers.{longest, runNumber, stepNumber}
 use Rattle.core.specs.Calls.{ran, step, endOf}
 use Rattle.refusals.specs.Refusals.{verdictNumber}
 use Rattle.core.proofs.Refusals.{ready}
 use Rattle.core.proofs.Replies.{refused-reply, step-starts}
-use Rattle.core.proofs.AtOnce.{just-one, as-step}
+use Rattle.core.proofs.WholeInstructions.{just-one, as-step}
 use Rattle.core.proofs.Core.step.Statement.{statement}
 use Rattle.core.proofs.Core.step.Tie as tie
 

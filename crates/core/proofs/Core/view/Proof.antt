@@ -2,7 +2,7 @@
 use mathlib.Core.Path.{sym, ap, _∙_}
 use mathlib.Core.Bool.{Bool, cond}
 use borrow.Author.Needs.{needs}
-use Rattle.core.specs.State.{freshCore}
+use Rattle.core.specs.Cores.{freshCore}
 use Rattle.core.specs.Numbers.{viewNumber}
 use Rattle.core.specs.Calls.{viewedReply, view}
 use Rattle.refusals.specs.Refusals.{verdictNumber}

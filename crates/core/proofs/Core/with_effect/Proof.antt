@@ -2,7 +2,7 @@
 use mathlib.Core.Path.{ap, _∙_}
 use Prim.Native.Nat.{ℕ}
 use lib.ListN.{set}
-use Rattle.core.specs.State.{withRegs}
+use Rattle.core.specs.Cores.{withRegs}
 use Rattle.core.specs.Datapath.{withEffect}
 use borrow.Author.Needs.{needs}
 use Rattle.core.proofs.Core.with_effect.Statement.{statement}

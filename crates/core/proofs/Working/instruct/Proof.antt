@@ -1,4 +1,4 @@
--- `core::State::instruct` meets its contract: the state after, Rt set and the store made, from what its callees ensure. Assumes nothing.
+-- `core::Working::instruct` meets its contract: the state after, Rt set and the store made, from what its callees ensure. Assumes nothing.
 use mathlib.Core.Path.{ap, _∙_}
 use lib.ListN.{set}
 use native.Mathlib.Omega.{arith}
@@ -8,11 +8,11 @@ use Rattle.isa.specs.declared.Kind.{Kind}
 use Rattle.table.specs.Table.{kindOf}
 use Rattle.effects.specs.Effect.{applied}
 use Rattle.core.specs.Instruction.{takes, memoryAfter}
-use Rattle.core.specs.AtOnce.{executedOf, stateAfter}
+use Rattle.core.specs.WholeInstructions.{executedOf, workingAfter}
 use Rattle.core.proofs.Cycles.{cost-of-range}
 use borrow.Author.Needs.{needs}
-use Rattle.core.proofs.State.instruct.Statement.{statement}
-use Rattle.core.proofs.State.instruct.Tie as tie
+use Rattle.core.proofs.Working.instruct.Statement.{statement}
+use Rattle.core.proofs.Working.instruct.Tie as tie
 
 after-requires : tie.Need-after-requires
 after-requires c κs =
@@ -35,7 +35,7 @@ returns c =
     let done = m .before .before .before .before .execute .ensures ∙ (λ j. executedOf (kind j) (word j) bank M (a .self)) in
     let cycles = m .before .before .cost .ensures ∙ ap (λ (k : Kind). costOf k (a .self .flags)) kind in
     let t = l .before .field-t .ensures ∙ ap fieldT word in (
-      m .after .ensures ∙ (λ j. stateAfter (kind j) (word j) bank (done j) (cycles j) (a .self)),
+      m .after .ensures ∙ (λ j. workingAfter (kind j) (word j) bank (done j) (cycles j) (a .self)),
       l .set-register .ensures ∙ (λ j. set bank (t j) (done j .effect .rt)),
       c .before .before .apply .ensures ∙ (λ j. applied (done j .effect .store) M),
     )

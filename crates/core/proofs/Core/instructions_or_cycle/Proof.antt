@@ -1,10 +1,10 @@
--- `core::Core::advance` meets its contract: by the room for an instruction and the cycle due. Assumes nothing.
+-- `core::Core::instructions_or_cycle` meets its contract: by the room for an instruction and the cycle due. Assumes nothing.
 use mathlib.Core.Path.{sym, _∙_}
 use mathlib.Core.Logic.{⊎-elim}
 use borrow.Author.Tests.{le-leb, lt-leb}
 use borrow.Author.Needs.{needs}
-use Rattle.core.proofs.Core.advance.Statement.{statement}
-use Rattle.core.proofs.Core.advance.Tie as tie
+use Rattle.core.proofs.Core.instructions_or_cycle.Statement.{statement}
+use Rattle.core.proofs.Core.instructions_or_cycle.Tie as tie
 
 instructions-requires : tie.Need-instructions-requires
 instructions-requires c κs =
@@ -19,14 +19,14 @@ returns c =
 
 returns-2 : tie.Need-returns-2
 returns-2 c =
-    c .before .before .advance-once .ensures
+    c .before .before .cycle-on .ensures
     ∙ ⊎-elim
     (λ w. sym (rw (le-leb 4 _ (w .0 .taken), sym (w .1 .ensures) ∙ w .2 .left)))
     (λ w. sym (rw (lt-leb 4 _ (w .left))))
     (c .before .before .before .before .if1 .came)
 
-pub advance-spec : {M : Type 1} → statement M
-advance-spec =
+pub instructions-or-cycle-spec : {M : Type 1} → statement M
+instructions-or-cycle-spec =
     tie.close
     (tie.spec
     (λ c κs. search needs)

@@ -1,10 +1,10 @@
--- `core::Core::reach` meets its contract: Rt by the field of IR. Assumes nothing.
+-- `core::Core::effect_before` meets its contract: Rt by the field of IR. Assumes nothing.
 use mathlib.Core.Path.{_≡_, ap, _∙_}
 use Rattle.isa.specs.Fields.{fieldT}
-use Rattle.core.specs.State.{register}
+use Rattle.core.specs.Cores.{register}
 use borrow.Author.Needs.{needs}
-use Rattle.core.proofs.Core.reach.Statement.{statement}
-use Rattle.core.proofs.Core.reach.Tie as tie
+use Rattle.core.proofs.Core.effect_before.Statement.{statement}
+use Rattle.core.proofs.Core.effect_before.Tie as tie
 
 returns : tie.Need-returns
 returns c =
@@ -13,6 +13,6 @@ returns c =
     c .register-of .ensures ∙ ap (register (self .regs)) (c .before .field-t .ensures) in
     rw rt
 
-pub reach-spec : {M : Type 1} → statement M
-reach-spec =
+pub effect-before-spec : {M : Type 1} → statement M
+effect-before-spec =
     tie.close (tie.spec (λ c. search needs) (λ c κs. search needs) (λ c κs. search needs) returns)

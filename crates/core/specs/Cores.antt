@@ -96,8 +96,8 @@ abbrev pub rbOf : Kind → ℕ → List ℕ → ℕ
 rbOf kind w regs = register regs (secondRegister kind (fieldT w) (fieldB w))
 
 -- what the instruction w can change of it; Rt is the register that the field t of w names
-abbrev pub reach : ℕ → Visible → Effect
-reach w v = untouched (register (v .regs) (fieldT w)) (v .pc) (v .sp) (v .flags) (v .stop)
+abbrev pub effectBefore : ℕ → Visible → Effect
+effectBefore w v = untouched (register (v .regs) (fieldT w)) (v .pc) (v .sp) (v .flags) (v .stop)
 
 -- it, after an effect of the instruction w
 abbrev pub changed : ℕ → Effect → Visible → Visible

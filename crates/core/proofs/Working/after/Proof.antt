@@ -1,14 +1,14 @@
--- `core::State::after` meets its contract: each part by what its callee ensures. Assumes nothing.
+-- `core::Working::after` meets its contract: each part by what its callee ensures. Assumes nothing.
 use mathlib.Core.Path.{ap, ap₂, _∙_}
 use Prim.Native.Nat.{_-_}
 use Rattle.isa.specs.Control.{secondRegister}
 use Rattle.effects.specs.Hidden.{withIr, withRaRb, withRalu}
 use Rattle.effects.specs.Cycles.{unlessStopping}
-use Rattle.core.specs.State.{register}
-use Rattle.core.specs.AtOnce.{stateOf}
+use Rattle.core.specs.Cores.{register}
+use Rattle.core.specs.WholeInstructions.{workingOf}
 use borrow.Author.Needs.{needs}
-use Rattle.core.proofs.State.after.Statement.{statement}
-use Rattle.core.proofs.State.after.Tie as tie
+use Rattle.core.proofs.Working.after.Statement.{statement}
+use Rattle.core.proofs.Working.after.Tie as tie
 
 returns : tie.Need-returns
 returns c =
@@ -24,7 +24,7 @@ returns c =
     let ra = c .before .before .before .unless-stopping .ensures ∙ (λ j. unlessStopping (stop j) (first j) (h .ra)) in
     let rb = c .before .before .unless-stopping2 .ensures ∙ (λ j. unlessStopping (stop j) (second j) (h .rb)) in
     let effect = a .done .effect in
-    λ j. stateOf (effect .pc) (effect .sp) (effect .flags) (withRalu (a .done .ralu) (withRaRb (ra j) (rb j) (withIr (a .word) h))) (effect .stop)
+    λ j. workingOf (effect .pc) (effect .sp) (effect .flags) (withRalu (a .done .ralu) (withRaRb (ra j) (rb j) (withIr (a .word) h))) (effect .stop)
     (a .self .left .0 - a .cycles .0)
 
 pub after-spec : {M : Type 1} → statement M

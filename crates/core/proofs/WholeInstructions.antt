@@ -1,4 +1,4 @@
--- Laws of instructions at once: what code makes of a bank and a state is the core after the instruction, and what run does at a turn are
+-- Laws of whole instructions: what code makes of a bank and a state is the core after the instruction, and what run does at a turn are
 -- cycles.
 use mathlib.Core.Path.{_≡_, refl, sym, ap, subst, _∙_}
 use mathlib.Core.Bool.{Bool, true, false, cond}
@@ -16,15 +16,16 @@ use Rattle.effects.specs.Hidden.{noHidden, withIr, withRaRb}
 use Rattle.effects.specs.Cycles.{calculated, leaving}
 use Rattle.effects.proofs.Theorems.{second-of}
 use Rattle.effects.specs.declared.Stop.{Stop}
-use Rattle.core.specs.State.{withHidden, withDue, withClock, Visible, visibleOf, register}
+use Rattle.core.specs.Cores.{withHidden, withDue, withClock, Visible, visibleOf, register}
 use Rattle.core.specs.Spent.{dueInRange, dueOne}
-use Rattle.core.specs.Instruction.{wordDue, effectOf, after, memoryAfter, takes, coreAfter, instructed}
-use Rattle.core.specs.Datapath.{cycled}
+use Rattle.core.specs.Instruction.{wordDue, effectOf, after, memoryAfter, takes, coreAfter, instructionEngine}
+use Rattle.core.specs.Datapath.{dueCycle}
 use Rattle.core.specs.Numbers.{isGoing, longest}
-use Rattle.core.specs.Calls.{ran, endOf, Progress, advanced, cyclesOn, starting, steppedReply}
-use Rattle.core.specs.AtOnce.{seen, joined, beforeOf, stateAfter, doneOn, stateOn, bankOn, pastOne, goesOn, instructionsOn, ahead}
+use Rattle.core.specs.Progress.{Progress, starting, cycleOn, cyclesOn, pastOne}
+use Rattle.core.specs.Calls.{ran, endOf, steppedReply}
+use Rattle.core.specs.WholeInstructions.{seen, joined, beforeOf, workingAfter, doneOn, workingOn, bankOn, mayGoOn, instructionsOn, instructionsOrCycle}
 use Rattle.core.specs.declared.Core.{Core}
-use Rattle.core.specs.declared.State.{State}
+use Rattle.core.specs.declared.Working.{Working}
 use Rattle.core.proofs.Spent.{both, due-when-one}
 use Rattle.core.proofs.Cycles.{only-going, one-more, none-more, no-cycle, cycles-add, counted, cycles-counted, cost-range}
 use Rattle.core.proofs.OneInstruction.{one-instruction}
@@ -33,8 +34,8 @@ use Rattle.core.proofs.Replies.{bit-small, applied-length}
 use Rattle.core.proofs.Again.{due-stays, length-stays}
 
 -- the instruction engine on the two parts of a core, with all else as it is in a core with cycle 1 due
-core-after : (core : Core) → dueOne core ≡ true → (M regs : List ℕ) (s : State) (used : ℕ)
-    → joined core (stateOn M regs s) (bankOn M regs s) (used + takes M (seen s regs)) ≡ coreAfter M (joined core s regs used)
+core-after : (core : Core) → dueOne core ≡ true → (M regs : List ℕ) (s : Working) (used : ℕ)
+    → joined core (workingOn M regs s) (bankOn M regs s) (used + takes M (seen s regs)) ≡ coreAfter M (joined core s regs used)
 unfolding coreAfter after
 core-after core one M regs s used =
     let w = wordDue M (seen s regs) in
@@ -46,10 +47,10 @@ core-after core one M regs s used =
     let clock : core .clock .0 + (used + takes M (seen s regs)) ≡ core .clock .0 + used + takes M (seen s regs) = omega arith in
     λ j. withClock (clock j)
     (withDue (due j)
-    (joined core (stateAfter (kindOf w) w regs (leaving (ralu j) (done .effect)) (takes M (seen s regs)) s) (bankOn M regs s) used))
+    (joined core (workingAfter (kindOf w) w regs (leaving (ralu j) (done .effect)) (takes M (seen s regs)) s) (bankOn M regs s) used))
 
 -- it leaves the lengths of bank and memory
-pub bank-length : (M regs : List ℕ) (s : State) → length (bankOn M regs s) ≡ length regs
+pub bank-length : (M regs : List ℕ) (s : Working) → length (bankOn M regs s) ≡ length regs
 bank-length M regs s = length-set regs _ _
 
 pub memory-length : (M : List ℕ) (v : Visible) → length (memoryAfter M v) ≡ length M
@@ -57,18 +58,18 @@ unfolding memoryAfter
 memory-length M v = applied-length (effectOf (wordDue M v) M v .store) M
 
 -- a run of a budget b under way
-abbrev pub under : Core → State → List ℕ → List ℕ → ℕ → ℕ → Progress
+abbrev pub under : Core → Working → List ℕ → List ℕ → ℕ → ℕ → Progress
 under core s regs M b count =
     record { core = joined core s regs (b - s .left .0); memory = M; used = b - s .left .0; finished = count }
 
 -- the engine's state, bank and memory are one instruction on
-pub past-one : (core : Core) → dueOne core ≡ true → (s s′ : State) (regs regs′ M M′ : List ℕ) (b count count′ : ℕ)
-    → s′ ≡ stateOn M regs s → regs′ ≡ bankOn M regs s → M′ ≡ memoryAfter M (seen s regs)
+pub past-one : (core : Core) → dueOne core ≡ true → (s s′ : Working) (regs regs′ M M′ : List ℕ) (b count count′ : ℕ)
+    → s′ ≡ workingOn M regs s → regs′ ≡ bankOn M regs s → M′ ≡ memoryAfter M (seen s regs)
     → takes M (seen s regs) ≤ s .left .0 → s .left .0 ≤ b → count′ ≡ count + 1
     → under core s′ regs′ M′ b count′ ≡ pastOne (under core s regs M b count)
 unfolding pastOne
 past-one core one s s′ regs regs′ M M′ b count count′ e r m fits most f =
-    let used : b - s′ .left .0 ≡ (b - s .left .0) + takes M (seen s regs) = omega (arith, ap (λ (s : State). s .left .0) e) in
+    let used : b - s′ .left .0 ≡ (b - s .left .0) + takes M (seen s regs) = omega (arith, ap (λ (s : Working). s .left .0) e) in
     let after = (λ j. joined core (e j) (r j) (used j)) ∙ core-after core one M regs s (b - s .left .0) in
     λ j. record { core = after j; memory = m j; used = used j; finished = f j }
 
@@ -77,37 +78,37 @@ one-fails : (x y : Bool) → cond x y false ≡ false → (x ≡ false) ⊎ (y �
 one-fails true y e = inr e
 one-fails false y e = inl refl
 
--- what lets an instruction be executed at once; and the loop's test of it, which asks too whether one more is to be
-goes-on-when : (s : Stop) (left : ℕ) → goesOn s left ≡ true → (isGoing s ≡ true) × (longest ≤ left)
+-- what lets a whole instruction be executed; and the loop's test of it, which asks too whether one more is to be
+goes-on-when : (s : Stop) (left : ℕ) → mayGoOn s left ≡ true → (isGoing s ≡ true) × (longest ≤ left)
 goes-on-when s left e =
     let tests = both (isGoing s) (leb longest left) e in
     (tests .0, leb-true longest left (tests .1))
 
-pub one-asked : (s : State) (more : ℕ) → cond (goesOn (s .stop) (s .left .0)) (ltb 0 more) false ≡ true
-    → (goesOn (s .stop) (s .left .0) ≡ true) × (longest ≤ s .left .0) × (0 < more)
+pub one-asked : (s : Working) (more : ℕ) → cond (mayGoOn (s .stop) (s .left .0)) (ltb 0 more) false ≡ true
+    → (mayGoOn (s .stop) (s .left .0) ≡ true) × (longest ≤ s .left .0) × (0 < more)
 one-asked s more e =
-    let tests = both (goesOn (s .stop) (s .left .0)) (ltb 0 more) e in
+    let tests = both (mayGoOn (s .stop) (s .left .0)) (ltb 0 more) e in
     (tests .0, goes-on-when (s .stop) (s .left .0) (tests .0) .1, ltb-true 0 more (tests .1))
 
 -- one instruction more, and none
-pub next-one : (n b : ℕ) (p q : Progress) → goesOn (p .core .stop) (b - p .used) ≡ true → q ≡ pastOne p
+pub next-one : (n b : ℕ) (p q : Progress) → mayGoOn (p .core .stop) (b - p .used) ≡ true → q ≡ pastOne p
     → instructionsOn (suc n) b p ≡ instructionsOn n b q
 unfolding instructionsOn
 next-one n b p q g e =
     ap (λ (goes : Bool). cond goes (instructionsOn n b (pastOne p)) p) g ∙ ap (instructionsOn n b) (sym e)
 
-no-next : (n b : ℕ) (p : Progress) → goesOn (p .core .stop) (b - p .used) ≡ false → instructionsOn n b p ≡ p
+no-next : (n b : ℕ) (p : Progress) → mayGoOn (p .core .stop) (b - p .used) ≡ false → instructionsOn n b p ≡ p
 unfolding instructionsOn
 no-next zero b p g = refl
 no-next (suc n) b p g = ap (λ (goes : Bool). cond goes (instructionsOn n b (pastOne p)) p) g
 
-pub none-asked : (n b : ℕ) (p : Progress) → cond (goesOn (p .core .stop) (b - p .used)) (ltb 0 n) false ≡ false → instructionsOn n b p ≡ p
+pub none-asked : (n b : ℕ) (p : Progress) → cond (mayGoOn (p .core .stop) (b - p .used)) (ltb 0 n) false ≡ false → instructionsOn n b p ≡ p
 unfolding instructionsOn
 none-asked n b p e =
     ⊎-elim
     (no-next n b p)
     (λ e. let none : n ≡ 0 = omega (arith, ltb-false 0 n e) in ap (λ (n : ℕ). instructionsOn n b p) none)
-    (one-fails (goesOn (p .core .stop) (b - p .used)) (ltb 0 n) e)
+    (one-fails (mayGoOn (p .core .stop) (b - p .used)) (ltb 0 n) e)
 
 -- q is k cycles on from p, within a budget
 record Along (b : ℕ) (p q : Progress) : Type 0 where
@@ -116,13 +117,13 @@ record Along (b : ℕ) (p q : Progress) : Type 0 where
   pub used : q .used ≡ p .used + k
   pub within : q .used ≤ b
 
--- instructions at once are as many cycles as they cost: `OneInstruction`, again and again
+-- whole instructions are as many cycles as they cost: `OneInstruction`, again and again
 instructions-along : (n b : ℕ) (p : Progress) → dueOne (p .core) ≡ true → p .used ≤ b → Along b p (instructionsOn n b p)
 unfolding instructionsOn pastOne coreAfter
 instructions-along zero b p d l = record { k = 0; cycles = sym (no-cycle p); used = omega arith; within = l }
-instructions-along (suc n) b p d l = by (goesOn (p .core .stop) (b - p .used)) refl (instructions-along n b (pastOne p))
+instructions-along (suc n) b p d l = by (mayGoOn (p .core .stop) (b - p .used)) refl (instructions-along n b (pastOne p))
   where
-    by : (goes : Bool) → goesOn (p .core .stop) (b - p .used) ≡ goes
+    by : (goes : Bool) → mayGoOn (p .core .stop) (b - p .used) ≡ goes
         → (dueOne (pastOne p .core) ≡ true → pastOne p .used ≤ b → Along b (pastOne p) (instructionsOn n b (pastOne p)))
         → Along b p (cond goes (instructionsOn n b (pastOne p)) p)
     by false g ih = record { k = 0; cycles = sym (no-cycle p); used = omega arith; within = l }
@@ -138,7 +139,7 @@ instructions-along (suc n) b p d l = by (goesOn (p .core .stop) (b - p .used)) r
           within = rest .within;
         }
 
-first-used : (n b : ℕ) (p : Progress) → dueOne (p .core) ≡ true → 1 ≤ n → goesOn (p .core .stop) (b - p .used) ≡ true
+first-used : (n b : ℕ) (p : Progress) → dueOne (p .core) ≡ true → 1 ≤ n → mayGoOn (p .core .stop) (b - p .used) ≡ true
     → 1 ≤ instructionsOn n b p .used
 unfolding pastOne coreAfter
 first-used zero b p d l g = absurd (omega arith)
@@ -154,14 +155,14 @@ record Turned (b : ℕ) (p q : Progress) : Type 0 where
   pub some : 1 ≤ q .used
 
 module _ (b : ℕ) (core : Core) (M : List ℕ) (going : isGoing (core .stop) ≡ true) (left : 1 ≤ b) where
-  one-cycle : Turned b (starting core M) (advanced (starting core M))
-  unfolding advanced
+  one-cycle : Turned b (starting core M) (cycleOn (starting core M))
+  unfolding cycleOn
   one-cycle =
       record {
         along =
             record {
               k = 1;
-              cycles = sym (one-more 0 (starting core M) going ∙ no-cycle (advanced (starting core M)));
+              cycles = sym (one-more 0 (starting core M) going ∙ no-cycle (cycleOn (starting core M)));
               used = refl;
               within = left;
             };
@@ -176,17 +177,17 @@ module _ (b : ℕ) (core : Core) (M : List ℕ) (going : isGoing (core .stop) �
         some = first-used b b (starting core M) d left (λ j. cond (going j) (fits j) false);
       }
 
-  turned : Turned b (starting core M) (ahead b (starting core M))
+  turned : Turned b (starting core M) (instructionsOrCycle b (starting core M))
   turned = by-room (leb longest b) refl
     where
       by-due : (one : Bool) → dueOne core ≡ one → leb longest b ≡ true
-          → Turned b (starting core M) (cond one (instructionsOn b b (starting core M)) (advanced (starting core M)))
+          → Turned b (starting core M) (cond one (instructionsOn b b (starting core M)) (cycleOn (starting core M)))
       by-due false d f = one-cycle
       by-due true d f = whole d (leb-true longest b f)
 
       by-room : (fits : Bool) → leb longest b ≡ fits
           → Turned b (starting core M)
-          (cond fits (cond (dueOne core) (instructionsOn b b (starting core M)) (advanced (starting core M))) (advanced (starting core M)))
+          (cond fits (cond (dueOne core) (instructionsOn b b (starting core M)) (cycleOn (starting core M))) (cycleOn (starting core M)))
       by-room false f = one-cycle
       by-room true f = by-due (dueOne core) refl f
 
@@ -208,19 +209,20 @@ cycles-left b p q t =
 
 -- no more instructions are finished than cycles are used
 few-finished : (n : ℕ) (p : Progress) → p .finished ≤ p .used → cyclesOn n p .finished ≤ cyclesOn n p .used
-unfolding advanced
+unfolding cycleOn
 few-finished zero p l = rw (no-cycle p) l
 few-finished (suc n) p l =
     by (isGoing (p .core .stop)) refl
-    (few-finished n (advanced p) (omega (arith, l, bit-small (cycled (p .memory) (p .core) .finished))))
+    (few-finished n (cycleOn p) (omega (arith, l, bit-small (dueCycle (p .memory) (p .core) .finished))))
   where
-    by : (g : Bool) → isGoing (p .core .stop) ≡ g → cyclesOn n (advanced p) .finished ≤ cyclesOn n (advanced p) .used
+    by : (g : Bool) → isGoing (p .core .stop) ≡ g → cyclesOn n (cycleOn p) .finished ≤ cyclesOn n (cycleOn p) .used
         → cyclesOn (suc n) p .finished ≤ cyclesOn (suc n) p .used
     by true g ih = rw (one-more n p g) ih
     by false g ih = rw (none-more (suc n) p g) l
 
 -- what run's loop needs of a turn from p to q, with the counts of the turn alone in q
 pub record Onward (b : ℕ) (p q : Progress) : Type 0 where
+  pub below : p .used < b
   pub left : cyclesOn (b - p .used) p ≡ cyclesOn (b - (p .used + q .used)) (counted (p .used) (p .finished) q)
   pub some : 1 ≤ q .used
   pub most : q .used ≤ b - p .used
@@ -230,7 +232,7 @@ pub record Onward (b : ℕ) (p q : Progress) : Type 0 where
   pub size : length (q .memory) ≡ length (p .memory)
 
 pub onward : (b : ℕ) (p q : Progress) → isGoing (p .core .stop) ≡ true → p .used < b → dueInRange (p .core) ≡ true
-    → q ≡ ahead (b - p .used) (starting (p .core) (p .memory)) → Onward b p q
+    → q ≡ instructionsOrCycle (b - p .used) (starting (p .core) (p .memory)) → Onward b p q
 onward b p q going below due e =
     let s = starting (p .core) (p .memory) in
     let t : Turned (b - p .used) s q =
@@ -241,6 +243,7 @@ onward b p q going below due e =
     let clock : q .core .clock .0 + 0 ≡ p .core .clock .0 + q .used =
     subst (λ (q : Progress). q .core .clock .0 + 0 ≡ p .core .clock .0 + q .used) (sym c) (clock-moves k s due) in
     record {
+      below = below;
       left = cycles-left b p q t;
       some = t .some;
       most = t .along .within;
@@ -261,9 +264,9 @@ pub as-step : (core : Core) (M : List ℕ)
     → let p = pastOne (starting core M) in
     let next = withHidden noHidden (p .core) in
     record { answer = ran (p .used) (p .finished) (endOf (next .stop) (dueOne next)); core = next; memory = p .memory }
-    ≡ steppedReply (takes M (visibleOf core)) (instructed M core) M
-unfolding pastOne coreAfter memoryAfter instructed
+    ≡ steppedReply (takes M (visibleOf core)) (instructionEngine M core) M
+unfolding pastOne coreAfter memoryAfter instructionEngine
 as-step core M =
     let used = zero-add (takes M (visibleOf core)) in
-    let next = instructed M core .core in
+    let next = instructionEngine M core .core in
     λ j. record { answer = ran (used j) 1 (endOf (next .stop) (dueOne next)); core = next; memory = memoryAfter M (visibleOf core) }

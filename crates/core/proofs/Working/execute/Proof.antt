@@ -1,11 +1,11 @@
--- `core::State::execute` meets its contract: from what its callees ensure. Assumes nothing.
+-- `core::Working::execute` meets its contract: from what its callees ensure. Assumes nothing.
 use mathlib.Core.Path.{ap, _∙_}
-use Rattle.effects.specs.Cycles.{atOnce}
-use Rattle.core.specs.State.{register}
-use Rattle.core.specs.AtOnce.{beforeOf}
+use Rattle.effects.specs.Cycles.{wholeInstruction}
+use Rattle.core.specs.Cores.{register}
+use Rattle.core.specs.WholeInstructions.{beforeOf}
 use borrow.Author.Needs.{needs}
-use Rattle.core.proofs.State.execute.Statement.{statement}
-use Rattle.core.proofs.State.execute.Tie as tie
+use Rattle.core.proofs.Working.execute.Statement.{statement}
+use Rattle.core.proofs.Working.execute.Tie as tie
 
 returns : tie.Need-returns
 returns c =
@@ -16,7 +16,7 @@ returns c =
     let rb = l .register-of2 .ensures ∙ ap (register regs) (l .before .field-b .ensures) in
     let rt = c .before .before .before .register-of3 .ensures ∙ ap (register regs) (c .before .before .before .before .field-t .ensures) in
     let before = c .before .before .before2 .ensures ∙ ap (beforeOf (a .self)) rt in
-    c .execute .ensures ∙ (λ j. atOnce (a .kind) (a .word) (ra j) (rb j) (a .self .hidden) (a .memory .now) (before j))
+    c .execute .ensures ∙ (λ j. wholeInstruction (a .kind) (a .word) (ra j) (rb j) (a .self .hidden) (a .memory .now) (before j))
 
 pub execute-spec : {M : Type 1} → statement M
 execute-spec =
