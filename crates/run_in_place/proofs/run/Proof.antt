@@ -1,4 +1,4 @@
--- `lent::run` meets its contract: a walk of its MIR, by hand. The borrow of the core is opened, which gives the core's cell. The core in it is
+-- `run_in_place::run` meets its contract: a walk of its MIR, by hand. The borrow of the core is opened, which gives the core's cell. The core in it is
 -- copied out and passed to the value form, with the memory at its own lifetime, which is given up for good. The core of the reply is stored
 -- in the cell, the borrow is closed at it, and the answer of the reply is returned.
 -- All that the proof knows of the value form is that it meets its contract, and it names no field of a core. Assumes nothing.
@@ -57,10 +57,10 @@ use Rattle.core.proofs.Core.run as value
 use Rattle.core.proofs.Core.run.Symbol as value-def
 use Rattle.core.proofs.Core.run.Symbol.{name as #core·Core·run}
 use Rattle.core.proofs.Core.run.Met as value-thm
-use Rattle.lent.proofs.run.Key.{name as #lent·run}
-use Rattle.lent.proofs.run as lent
-use Rattle.lent.proofs.run.Statement as stated
-use Rattle.lent.proofs.run.Code as code
+use Rattle.run_in_place.proofs.run.Key.{name as #lent·run}
+use Rattle.run_in_place.proofs.run as lent
+use Rattle.run_in_place.proofs.run.Statement as stated
+use Rattle.run_in_place.proofs.run.Code as code
 
 abbrev stayed : Stays (lent.ended .signature .params) (lent.ended .kept)
 stayed =

@@ -1,2 +1,2 @@
 -- What the call on a lent core gave.
-pub mod Lent
+pub mod InPlace

@@ -7,5 +7,5 @@ use Rattle.core.specs.declared.Core.{Core}
 use Rattle.core.specs.declared.RunAnswer.{RunAnswer}
 
 -- the answer, with the core and the memory as they then are
-abbrev pub lentGave : RunAnswer → Core → List ℕ → Reply
-lentGave answer core memory = record { answer = runAnswerOf answer; core = core; memory = memory }
+abbrev pub inPlaceGave : RunAnswer → Core → List ℕ → Reply
+inPlaceGave answer core memory = record { answer = runAnswerOf answer; core = core; memory = memory }
