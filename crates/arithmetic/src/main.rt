@@ -31,19 +31,14 @@ fn put_text(line: &mut [u8; 48], at: usize, text: &[u8]) -> usize
     next
 }
 
-// The last hexadecimal digit of a number.
-fn digit(n: u16) -> u8 {
-    let d = (n % 16) as u8;
-    if d < 10 { b'0' + d } else { b'A' + (d - 10) }
-}
-
 // A space and two digits.
 fn put_byte(line: &mut [u8; 48], at: usize, k: u8) -> usize
     ensures { λ r. ⌜ r ≤ 48 ⌝ }
 {
+    let text = hex::word_text(k as u16);
     let first = put(line, at, b' ');
-    let second = put(line, first, digit(k as u16 / 16));
-    put(line, second, digit(k as u16))
+    let second = put(line, first, text[2]);
+    put(line, second, text[3])
 }
 
 // A space and four digits.
@@ -51,10 +46,7 @@ fn put_word(line: &mut [u8; 48], at: usize, p: u16) -> usize
     ensures { λ r. ⌜ r ≤ 48 ⌝ }
 {
     let first = put(line, at, b' ');
-    let second = put(line, first, digit(p / 4096));
-    let third = put(line, second, digit(p / 256));
-    let fourth = put(line, third, digit(p / 16));
-    put(line, fourth, digit(p))
+    put_text(line, first, &hex::word_text(p))
 }
 
 fn bit(set: bool) -> u8 {

@@ -17,7 +17,7 @@ fn print_number(before: &[u8], n: u64) {
 
 fn print_word(before: &[u8], word: u16) {
     print(before);
-    print(&text::word_text(word));
+    print(&hex::word_text(word));
 }
 
 // What a core has beside its registers.

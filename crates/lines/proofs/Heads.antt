@@ -10,7 +10,7 @@ use borrow.Author.Tests.{lt-ltb}
 use lib.Dec.{eqb, ltb, lit≤}
 use lib.ListN.{length, getD, take, drop, List·getD-eq-default}
 use lib.Seq.{getD-take, take-add, drop-at, length-take-le}
-use Rattle.digits.specs.Digits.{digitValue}
+use Rattle.hex.specs.Digits.{digitValue}
 use Rattle.lines.specs.Lines.{lineFeed, space, semicolon, find, firstLine, afterSpaces, isEmpty, nothingOrComment, ends, byteAt, fourDigits, numberAt, entryFrom, entryOf, readLine}
 use Rattle.lines.specs.Heads.{headOf, headLength, headAlone, lineFrom}
 use Rattle.lines.specs.declared.Line.{Line}

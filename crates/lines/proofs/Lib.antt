@@ -6,3 +6,4 @@ pub mod Theorems
 pub mod Entries
 pub mod Grammar
 pub mod Heads
+pub mod ReadBack

@@ -1,11 +1,11 @@
--- What holds of every listing's lines, of every line and of every comment: seven statements, proved in proofs/Theorems.antt and
--- proofs/Grammar.antt.
+-- What holds of every listing's lines, of every line and of every comment: eight statements, proved in proofs/Theorems.antt,
+-- proofs/Grammar.antt and proofs/ReadBack.antt.
 use mathlib.Core.Path.{_≡_}
 use mathlib.Core.Logic.{_↔_, _⊎_}
 use mathlib.Core.List.{List, [], _∷_, _++_}
 use Prim.Native.Nat.{ℕ, _+_, _-_, _*_, _≤_, _<_, min}
 use lib.ListN.{length, getD, take, drop, replicate}
-use Rattle.digits.specs.Digits.{digitValue}
+use Rattle.hex.specs.Digits.{digitValue, wordText}
 use Rattle.lines.specs.Lines.{lineFeed, space, semicolon, lines, find, firstLine, byteAt, numberAt, readLine}
 use Rattle.lines.specs.Comment.{lineFrom, commentText, commentStart}
 use Rattle.lines.specs.declared.Line.the-variants.{Blank, Entry}
@@ -94,3 +94,7 @@ CommentExactly =
     × (((j : ℕ) → getD (lineFrom listing offset) j 0 ≡ semicolon → ⊥)
     → (commentText listing offset ≡ [])
     × (commentStart listing offset ≡ min offset (length listing) + length (lineFrom listing offset)))
+
+-- a word in its four digits is read back (proved as `word-read-back`)
+abbrev pub WordReadBack : Type 0
+WordReadBack = (w : ℕ) → w < 65536 → numberAt (wordText w) 0 ≡ w

@@ -4,7 +4,7 @@ ghost use mathlib.Core.Bool.{true};
 ghost use Prim.Native.Nat.{_+_, _≤_, min};
 ghost use lib.Dec.{leb};
 ghost use lib.ListN.{length, drop};
-ghost use Rattle.digits.specs.Digits.{digitValue, Holds};
+ghost use Rattle.hex.specs.Digits.{digitValue, Holds};
 ghost use Rattle.lines.specs.Lines.{find, firstLine, afterSpaces, fourDigits, numberAt, entryFrom, readLine};
 ghost use Rattle.lines.specs.Heads.{headOf, headLength, headAlone, lineFrom};
 ghost use Rattle.lines.specs.declared.Line.the-variants.{IllFormed};
@@ -234,7 +234,7 @@ pub fn read_sound_line_by(table: &[u8; 256], rest: &[u8]) -> Read
 pub fn read_line(rest: &[u8]) -> Read
     ensures { λ r. ⌜ (r .line ≡ readLine (firstLine (now (rest .entry)))) × (r .length ≡ length (firstLine (now (rest .entry)))) ⌝ }
 {
-    let table = digits::table();
+    let table = hex::table();
     read_line_by(&table, rest)
 }
 

@@ -1,7 +1,7 @@
 // A listing checked, and stored into a lent memory: all lines are checked before a word is written.
 ghost use mathlib.Core.Path.{_≡_};
 ghost use lib.ListN.{length};
-ghost use Rattle.digits.specs.Digits.{Holds};
+ghost use Rattle.hex.specs.Digits.{Holds};
 ghost use Rattle.lines.specs.Lines.{lines};
 ghost use Rattle.listing.specs.Answers.{faultNumber, verdictNumber, storeAnswer};
 ghost use Rattle.listing.specs.Listing.{lowestAfter, addressFault, faultOf, sound, checkOf, wordsOf, storeLine, storeLines, listingAnswer, listingMemory};
@@ -134,7 +134,7 @@ pub fn store(listing: &[u8], memory: &mut [u16]) -> StoreAnswer
     ensures answer { λ r. ⌜ storeAnswer r ≡ listingAnswer (now (listing .entry)) (length (now (memory .entry))) ⌝ }
     ensures memory { λ _. ⌜ now (memory .exit) ≡ listingMemory (now (listing .entry)) (now (memory .entry)) ⌝ }
 {
-    let table = digits::table();
+    let table = hex::table();
     let answer = check(&table, listing, memory.len());
     match answer {
         StoreAnswer::Stored(_) => store_lines(&table, listing, memory),

@@ -2,7 +2,6 @@
 // words that changed, and how many did.
 ghost use Prim.Native.Nat.{_<_, _≤_};
 ghost use lib.ListN.{length};
-use listing::Fault;
 use listing::StoreAnswer;
 
 fn print(text: &[u8]) {
@@ -15,24 +14,9 @@ fn print_number(before: &[u8], n: usize) {
     io::print_decimal(1, n as u64);
 }
 
-// The last hexadecimal digit of a number.
-fn digit(n: usize) -> u8 {
-    let d = (n % 16) as u8;
-    if d < 10 { b'0' + d } else { b'A' + (d - 10) }
-}
-
-// A number below 65,536 in four hexadecimal digits.
-fn print_word(before: u8, n: usize) {
-    io::write_all(
-        1,
-        &[
-            before,
-            digit(n / 4096),
-            digit(n / 256),
-            digit(n / 16),
-            digit(n),
-        ],
-    );
+fn print_word(before: &[u8], word: u16) {
+    print(before);
+    print(&hex::word_text(word));
 }
 
 // What the word at an index is before a store.
@@ -49,8 +33,8 @@ fn fill(memory: &mut [u16]) {
 // A word that changed, after some others that did.
 fn print_change(others: usize, i: usize, word: u16) {
     if others < 4 {
-        print_word(b' ', i);
-        print_word(b'=', word as usize);
+        print_word(b" ", (i % 65536) as u16);
+        print_word(b"=", word);
     }
 }
 
@@ -67,20 +51,11 @@ fn print_changes(memory: &[u16]) -> usize {
     count
 }
 
-// The numbers of document 01.
-fn number(fault: Fault) -> usize {
-    match fault {
-        Fault::IllFormed => 2,
-        Fault::NotAbove => 3,
-        Fault::PastEnd => 4,
-    }
-}
-
 fn print_answer(answer: StoreAnswer) {
     match answer {
         StoreAnswer::Stored(count) => print_number(b": stored ", count),
         StoreAnswer::Refused(fault, offset) => {
-            print_number(b": refused ", number(fault));
+            print_number(b": refused ", listing::fault_number(fault) as usize);
             print_number(b" at ", offset);
         }
     }
@@ -310,20 +285,19 @@ fn show_again() {
 
 // A byte of the long listing: ten for each address, whose word is its filler.
 fn entry_byte(i: usize) -> u8 {
-    let address = i / 10;
-    let word = filler(address) as usize;
-    match i % 10 {
-        0 => digit(address / 4096),
-        1 => digit(address / 256),
-        2 => digit(address / 16),
-        3 => digit(address),
-        4 => b' ',
-        5 => digit(word / 4096),
-        6 => digit(word / 256),
-        7 => digit(word / 16),
-        8 => digit(word),
-        _ => b'\n',
+    let address = hex::word_text((i / 10 % 65536) as u16);
+    let word = hex::word_text(filler(i / 10));
+    let place = i % 10;
+    if place < 4 {
+        return address[place];
     }
+    if place == 4 {
+        return b' ';
+    }
+    if place < 9 {
+        return word[place - 5];
+    }
+    b'\n'
 }
 
 fn write_entries(text: &mut [u8; 655360]) {

@@ -63,7 +63,7 @@ fn print(text: &[u8]) {
 
 fn print_word(before: &[u8], word: u16) {
     print(before);
-    print(&text::word_text(word));
+    print(&hex::word_text(word));
 }
 
 fn print_number(before: &[u8], n: u64) {

@@ -67,7 +67,7 @@ fn put_word(page: &mut [u8; 8192], from: usize, name: &[u8], word: u64) -> usize
     ensures { λ r. ⌜ r ≤ 8192 ⌝ }
 {
     let at = put(page, from, name);
-    put(page, at, &text::word_text((word % 65536) as u16))
+    put(page, at, &hex::word_text((word % 65536) as u16))
 }
 
 fn bit(n: u64) -> u8 {

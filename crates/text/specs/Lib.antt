@@ -1,3 +1,2 @@
--- How words, flags, end letters and numbers are written.
+-- How flags, end letters and the lines of a trace are written.
 pub mod Text
-pub mod Theorems

@@ -1,19 +1,12 @@
--- Document 01: 'Words and addresses are .. written as four hexadecimal digits', 'NZCV is written as four bits', 'Every other figure is in
+-- Document 01: 'NZCV is written as four bits', 'Every other figure is in
 -- base ten', and the lines of `r8trace`: 'address, word, cycles, NZCV after', as its example has them. Texts are lists of bytes in ASCII.
-use mathlib.Core.Bool.{Bool, true, false, cond}
+use mathlib.Core.Bool.{Bool, true, false}
 use mathlib.Core.List.{List, [], _∷_, _++_}
-use Prim.Native.Nat.{ℕ, _+_, _/_, _%_}
-use lib.Dec.{ltb}
+use Prim.Native.Nat.{ℕ, _+_, _%_}
+use Rattle.hex.specs.Digits.{wordText}
 use Rattle.isa.specs.declared.Flags.{Flags}
 use Rattle.core.specs.declared.End.{End}
 use Rattle.core.specs.declared.End.the-variants.{H, U, B, M}
-
--- the last hexadecimal digit of a number, in capitals as document 01's example has them: `0` is 48, `A` is 65
-abbrev pub hexDigit : ℕ → ℕ
-hexDigit n = cond (ltb (n % 16) 10) (48 + n % 16) (55 + n % 16)
-
-abbrev pub wordText : ℕ → List ℕ
-wordText w = hexDigit (w / 4096) ∷ hexDigit (w / 256) ∷ hexDigit (w / 16) ∷ hexDigit w ∷ []
 
 abbrev pub bitText : Bool → ℕ
 bitText true = 49

@@ -1,17 +1,9 @@
-// How words, flags, end letters and lines of a trace are written.
+// How flags, end letters and the lines of a trace are written.
 ghost use mathlib.Core.Path.{_≡_};
-ghost use Rattle.text.specs.Text.{hexDigit, lastDigit, bitText, wordText, flagsText, lineText, letterText};
+ghost use Rattle.text.specs.Text.{lastDigit, bitText, flagsText, lineText, letterText};
 use core::End;
 use isa::Cycles;
 use isa::Flags;
-
-// The last hexadecimal digit of a word.
-fn digit(word: u16) -> u8
-    ensures { λ r. ⌜ r ≡ hexDigit word ⌝ }
-{
-    let d = (word % 16) as u8;
-    if d < 10 { 48 + d } else { 55 + d }
-}
 
 fn last_digit(n: u32) -> u8
     ensures { λ r. ⌜ r ≡ lastDigit n ⌝ }
@@ -25,12 +17,6 @@ fn bit(set: bool) -> u8
     if set { b'1' } else { b'0' }
 }
 
-pub fn word_text(w: u16) -> [u8; 4]
-    ensures { λ r. ⌜ r ≡ wordText w ⌝ }
-{
-    [digit(w / 4096), digit(w / 256), digit(w / 16), digit(w)]
-}
-
 pub fn flags_text(flags: Flags) -> [u8; 4]
     ensures { λ r. ⌜ r ≡ flagsText flags ⌝ }
 {
@@ -41,23 +27,26 @@ pub fn flags_text(flags: Flags) -> [u8; 4]
 pub fn line_text(address: u16, word: u16, cycles: Cycles, flags: Flags) -> [u8; 17]
     ensures { λ r. ⌜ r ≡ lineText address word (cycles .0) flags ⌝ }
 {
+    let a = hex::word_text(address);
+    let w = hex::word_text(word);
+    let f = flags_text(flags);
     [
-        digit(address / 4096),
-        digit(address / 256),
-        digit(address / 16),
-        digit(address),
+        a[0],
+        a[1],
+        a[2],
+        a[3],
         b' ',
-        digit(word / 4096),
-        digit(word / 256),
-        digit(word / 16),
-        digit(word),
+        w[0],
+        w[1],
+        w[2],
+        w[3],
         b' ',
         last_digit(cycles.0),
         b' ',
-        bit(flags.n),
-        bit(flags.z),
-        bit(flags.c),
-        bit(flags.v),
+        f[0],
+        f[1],
+        f[2],
+        f[3],
         b'\n',
     ]
 }

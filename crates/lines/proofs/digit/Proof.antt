@@ -1,6 +1,6 @@
 -- `lines::digit` meets its contract: the table's rule at the byte. Assumes nothing.
 use borrow.Author.Needs.{needs}
-use Rattle.digits.specs.Digits.{Holds}
+use Rattle.hex.specs.Digits.{Holds}
 use Rattle.lines.proofs.digit.Statement.{statement}
 use Rattle.lines.proofs.digit.Tie as tie
 

@@ -7,7 +7,7 @@ use native.Mathlib.Nat.{add-zero, zero-add, add-suc, suc-add, le-of-suc-le-suc, 
 use native.Mathlib.Omega.{arith}
 use lib.Dec.{T, eqb, eqb→eq}
 use lib.ListN.{length, getD}
-use Rattle.digits.specs.Digits.{digitValue, Holds}
+use Rattle.hex.specs.Digits.{digitValue, Holds}
 
 -- the list holds the values of the bytes from i on
 abbrev pub holds : ℕ → List ℕ → Bool

@@ -1,9 +1,9 @@
--- `text::digit` meets its contract: by whether the digit is below 10. Assumes nothing.
+-- `hex::digit` meets its contract: by whether the digit is below 10. Assumes nothing.
 use Prim.Native.Nat.{_%_}
 use borrow.Author.Tests.{lt-ltb, le-ltb}
 use borrow.Author.Needs.{needs}
-use Rattle.text.proofs.digit.Statement.{statement}
-use Rattle.text.proofs.digit.Tie as tie
+use Rattle.hex.proofs.digit.Statement.{statement}
+use Rattle.hex.proofs.digit.Tie as tie
 
 returns : tie.Need-returns
 returns c = rw (lt-ltb (c .before .args .word % 16) 10 (c .if1 .taken))

@@ -1,5 +1,6 @@
-// The values of hexadecimal digits, as a table of the 256 bytes.
-ghost use Rattle.digits.specs.Digits.{Holds};
+// Hexadecimal digits: their values, as a table of the 256 bytes, and words written in four of them.
+ghost use mathlib.Core.Path.{_≡_};
+ghost use Rattle.hex.specs.Digits.{Holds, hexDigit, wordText};
 
 // The digit value of each byte, either case; 16 for a byte that is no digit.
 const VALUES: [u8; 256] = [
@@ -281,4 +282,19 @@ pub fn table() -> [u8; 256]
     ensures { λ r. ⌜ Holds r ⌝ }
 {
     VALUES
+}
+
+// The last hexadecimal digit of a word.
+fn digit(word: u16) -> u8
+    ensures { λ r. ⌜ r ≡ hexDigit word ⌝ }
+{
+    let d = (word % 16) as u8;
+    if d < 10 { 48 + d } else { 55 + d }
+}
+
+// A word in four digits.
+pub fn word_text(w: u16) -> [u8; 4]
+    ensures { λ r. ⌜ r ≡ wordText w ⌝ }
+{
+    [digit(w / 4096), digit(w / 256), digit(w / 16), digit(w)]
 }

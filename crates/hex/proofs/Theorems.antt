@@ -1,13 +1,13 @@
--- The theorem of specs/Theorems.antt. Assumes nothing.
+-- The theorems of specs/Theorems.antt. Assumes nothing.
 use mathlib.Core.Path.{_≡_, refl, sym, _∙_}
 use mathlib.Core.Logic.{_⊎_, inl, inr, ⊎-elim}
 use mathlib.Core.Bool.{Bool, true, false, cond, _&&_}
-use Prim.Native.Nat.{ℕ, _+_, _-_, _≤_, _<_}
+use Prim.Native.Nat.{ℕ, _+_, _-_, _%_, _≤_, _<_}
 use native.Mathlib.Omega.{arith}
-use borrow.Author.Tests.{leb-true, leb-false, le-leb, lt-leb}
-use lib.Dec.{leb}
-use Rattle.digits.specs.Digits.{within, digitValue}
-use Rattle.digits.specs.Theorems.{DigitExactly}
+use borrow.Author.Tests.{leb-true, leb-false, le-leb, lt-leb, ltb-true, ltb-false}
+use lib.Dec.{ltb, leb}
+use Rattle.hex.specs.Digits.{within, digitValue, hexDigit}
+use Rattle.hex.specs.Theorems.{DigitExactly, DigitReadBack}
 
 -- inside a range, or outside it
 ranged : (low high b : ℕ) → ((within low high b ≡ true) × (low ≤ b) × (b ≤ high)) ⊎ ((within low high b ≡ false) × ((b < low) ⊎ (high < b)))
@@ -57,3 +57,26 @@ below b n (inr d) = d .1
 pub digit-exactly : DigitExactly
 unfolding Digit
 digit-exactly b n = (λ p. is-digit b n (p .0) (p .1), λ d. (has-value b n d, below b n d))
+
+-- a digit is written low or high
+low-digit : (d : ℕ) → d < 10 → digitValue (48 + d) ≡ d
+unfolding digitValue
+low-digit d h = rw (le-leb 48 (48 + d) (omega arith), le-leb (48 + d) 57 (omega arith)) (omega arith)
+
+high-digit : (d : ℕ) → 10 ≤ d → d < 16 → digitValue (55 + d) ≡ d
+unfolding digitValue
+high-digit d l h =
+    rw (
+      le-leb 48 (55 + d) (omega arith),
+      lt-leb (55 + d) 57 (omega arith),
+      le-leb 65 (55 + d) (omega arith),
+      le-leb (55 + d) 70 (omega arith),
+    )
+    (omega arith)
+
+pub digit-read-back : DigitReadBack
+digit-read-back n = by (ltb (n % 16) 10) refl
+  where
+    by : (low : Bool) → ltb (n % 16) 10 ≡ low → digitValue (hexDigit n) ≡ n % 16
+    by true e = rw e (low-digit (n % 16) (ltb-true (n % 16) 10 e))
+    by false e = rw e (high-digit (n % 16) (ltb-false (n % 16) 10 e) (omega arith))

@@ -1,2 +1,0 @@
--- The theorem about the texts.
-pub mod Theorems
