@@ -5,4 +5,4 @@ pub mod Front
 pub mod Theorems
 pub mod Entries
 pub mod Grammar
-pub mod Heads
+pub mod LineReader
