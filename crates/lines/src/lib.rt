@@ -170,7 +170,7 @@ fn entry_length(front: Line) -> usize
     }
 }
 
-// A line whose entry, or whose start where it has none, nothing but spaces follows.
+// What a line says where nothing but spaces follows its entry; blank where it has none.
 fn entry_alone(front: Line) -> Line
     ensures { λ r. ⌜ r ≡ entryAlone front ⌝ }
 {

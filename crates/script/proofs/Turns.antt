@@ -1,23 +1,20 @@
 -- One line of a script read; and what the lines from a start on are found to be. Assumes nothing.
 use mathlib.Core.Path.{_≡_, refl, sym, ap, _∙_}
-use mathlib.Core.Bool.{true, false}
 use mathlib.Core.List.{List}
 use Prim.Native.Nat.{ℕ, _+_, _-_, _≤_, _<_}
 use native.Mathlib.Omega.{arith}
-use lib.Dec.{lit≤}
 use lib.ListN.{length, take, drop, drop-of-length-le}
 use Rattle.lines.specs.Lines.{lines, firstLine}
 use Rattle.lines.proofs.Places.{to-end, first-length}
 use Rattle.lines.proofs.Front.{front-at, first-in}
 use Rattle.script.specs.Commands.{commandOf}
-use Rattle.script.specs.Script.{meaningOf, placeAfter, Script, calls, unreadable, followed, atEnd, scriptFrom}
-use Rattle.script.specs.ScriptParts.{scriptAt, verdictOf, atEndAnswer, callsIn, isUnreadable}
+use Rattle.script.specs.Script.{meaningOf, placeAfter, Call, Script, calls, unreadable, called, followed, atEnd, scriptFrom}
+use Rattle.script.specs.ScriptParts.{scriptAt, verdictOf, atEndAnswer}
 use Rattle.script.specs.declared.Command.{Command}
 use Rattle.script.specs.declared.Place.{Place}
 use Rattle.script.specs.declared.Place.the-variants.{Outside, Inside}
 use Rattle.script.specs.declared.Start.{Start}
 use Rattle.script.specs.declared.Meaning.{Meaning}
-use Rattle.script.specs.declared.Meaning.the-variants as meaning
 use Rattle.script.specs.declared.ScriptAnswer.{ScriptAnswer}
 use Rattle.script.specs.declared.ScriptAnswer.the-variants as answer
 
@@ -48,11 +45,6 @@ pub reads-end : (s : List ℕ) (start : Start) → length s ≤ start .at → sc
 unfolding scriptFrom lines
 reads-end s start h = rw (drop-of-length-le s h)
 
-pub calls-le : (m : Meaning) → callsIn m ≤ 1
-calls-le meaning.Nothing = lit≤ tt
-calls-le (meaning.Call kind first second) = lit≤ tt
-calls-le meaning.Unreadable = lit≤ tt
-
 -- the verdict where n calls were read before
 abbrev pub verdictFrom : ℕ → Script → ScriptAnswer
 verdictFrom n (calls cs) = answer.Read (n + length cs)
@@ -62,22 +54,9 @@ pub verdict-starts : (x : Script) → verdictOf x ≡ verdictFrom 0 x
 verdict-starts (calls cs) = ap answer.Read (omega arith)
 verdict-starts (unreadable number) = refl
 
-one-more : (n : ℕ) (kind first second number : ℕ) (rest : Script)
-    → verdictFrom n (followed (meaning.Call kind first second) number rest) ≡ verdictFrom (n + 1) rest
-one-more n kind first second number (calls cs) = ap answer.Read (omega arith)
-one-more n kind first second number (unreadable k) = refl
-
-pub verdict-goes-on : (n number : ℕ) (m : Meaning) (rest : Script) → isUnreadable m ≡ false
-    → verdictFrom n (followed m number rest) ≡ verdictFrom (n + callsIn m) rest
-verdict-goes-on n number meaning.Nothing rest e = ap (λ (k : ℕ). verdictFrom k rest) (omega arith)
-verdict-goes-on n number (meaning.Call kind first second) rest e = one-more n kind first second number rest
-verdict-goes-on n number meaning.Unreadable rest e = let z : _≡_ {A = ℕ} 0 1 = cc in absurd (omega arith)
-
-pub verdict-stops : (n number : ℕ) (m : Meaning) (rest : Script) → isUnreadable m ≡ true
-    → verdictFrom n (followed m number rest) ≡ answer.Unreadable number
-verdict-stops n number meaning.Nothing rest e = let z : _≡_ {A = ℕ} 0 1 = cc in absurd (omega arith)
-verdict-stops n number (meaning.Call kind first second) rest e = let z : _≡_ {A = ℕ} 0 1 = cc in absurd (omega arith)
-verdict-stops n number meaning.Unreadable rest e = refl
+pub one-more : (n : ℕ) (c : Call) (rest : Script) → verdictFrom n (called c rest) ≡ verdictFrom (n + 1) rest
+one-more n c (calls cs) = ap answer.Read (omega arith)
+one-more n c (unreadable k) = refl
 
 pub verdict-ends : (n : ℕ) (place : Place) → verdictFrom n (atEnd place) ≡ atEndAnswer place n
 verdict-ends n Outside = ap answer.Read (omega arith)

@@ -9,7 +9,7 @@ use lib.Dec.{leb}
 use lib.ListN.{length, drop}
 use lib.Seq.{sets, sets-eq, length-sets}
 use Rattle.script.specs.Script.{Call, call, Script, calls, unreadable, followed, atEnd, scriptOf, numbersOf, Given, gave, scriptRead}
-use Rattle.script.specs.ScriptParts.{firstStart, scriptAt, verdictOf, callsIn, put, Fits, callsWritten}
+use Rattle.script.specs.ScriptParts.{scriptAt, verdictOf, callsIn, put, Fits, callsWritten}
 use Rattle.script.specs.declared.Place.{Place}
 use Rattle.script.specs.declared.Place.the-variants.{Outside, Inside}
 use Rattle.script.specs.declared.Start.{Start}
@@ -40,6 +40,9 @@ pub record Reached (text old : List ℕ) (start : Start) (to : ℕ) (list : List
   pub room : to + 3 * length left ≤ length list
   pub same : length list ≡ length old
   pub gives : callsWritten (scriptOf text) old ≡ sets list to (numbersOf left)
+
+abbrev firstStart : Start
+firstStart = record { at = 0; number = 1; place = Outside }
 
 pub starts : (text old : List ℕ) → Fits (scriptOf text) (length old) → Reached text old firstStart 0 old
 unfolding scriptOf

@@ -1,5 +1,4 @@
 -- Only contracts of private functions and proofs cite this: how `read` goes, line by line.
-use mathlib.Core.Bool.{Bool, true, false}
 use mathlib.Core.List.{List, [], _∷_, _++_}
 use Prim.Native.Nat.{ℕ, _+_, _*_, _≤_}
 use lib.ListN.{length, drop}
@@ -13,9 +12,6 @@ use Rattle.script.specs.declared.Meaning.{Meaning}
 use Rattle.script.specs.declared.Meaning.the-variants as meaning
 use Rattle.script.specs.declared.ScriptAnswer.{ScriptAnswer}
 use Rattle.script.specs.declared.ScriptAnswer.the-variants as answer
-
-abbrev pub firstStart : Start
-firstStart = record { at = 0; number = 1; place = Outside }
 
 -- the script that the lines from a start on are
 abbrev pub scriptAt : List ℕ → Start → Script
@@ -39,11 +35,6 @@ abbrev pub callsIn : Meaning → ℕ
 callsIn meaning.Nothing = 0
 callsIn (meaning.Call kind first second) = 1
 callsIn meaning.Unreadable = 0
-
-abbrev pub isUnreadable : Meaning → Bool
-isUnreadable meaning.Nothing = false
-isUnreadable (meaning.Call kind first second) = false
-isUnreadable meaning.Unreadable = true
 
 -- one line's call written at a place
 abbrev pub put : Meaning → ℕ → List ℕ → List ℕ

@@ -1,11 +1,11 @@
 // Scripts: calls as lines of text, read into the numbers that lists::replay takes.
 ghost use mathlib.Core.Path.{_≡_};
-ghost use Prim.Native.Nat.{ℕ, _+_, _*_, _≤_, _<_};
+ghost use Prim.Native.Nat.{_+_, _*_, _≤_, _<_};
 ghost use lib.ListN.{length};
 ghost use Rattle.lines.specs.Lines.{ends};
 ghost use Rattle.script.specs.Commands.{begins, says, isDigit, runOf, budgetOf, commandOf};
 ghost use Rattle.script.specs.Script.{outside, isLoad, isEnd, inside, meaningOf, afterOutside, afterInside, placeAfter, followed, scriptOf, gave, scriptRead};
-ghost use Rattle.script.specs.ScriptParts.{firstStart, scriptAt, Within, verdictOf, atEndAnswer, callsIn, isUnreadable, put, Fits, callsWritten};
+ghost use Rattle.script.specs.ScriptParts.{scriptAt, Within, verdictOf, atEndAnswer, callsIn, put, Fits, callsWritten};
 
 const SPACE: u8 = 32;
 
@@ -43,6 +43,13 @@ struct Start {
     number: usize,
     place: Place,
 }
+
+// The first line.
+const FIRST: Start = Start {
+    at: 0,
+    number: 1,
+    place: Place::Outside,
+};
 
 // What a line comes to, and where the next one starts.
 struct Turn {
@@ -297,51 +304,12 @@ fn place_after(place: Place, command: Command, number: usize, next: usize) -> Pl
     }
 }
 
-fn calls_in(meaning: Meaning) -> usize
-    ensures { λ r. ⌜ r ≡ callsIn meaning ⌝ }
-{
-    match meaning {
-        Meaning::Nothing => 0,
-        Meaning::Call {
-            kind: _,
-            first: _,
-            second: _,
-        } => 1,
-        Meaning::Unreadable => 0,
-    }
-}
-
-fn cannot_be_read(meaning: Meaning) -> bool
-    ensures { λ r. ⌜ r ≡ isUnreadable meaning ⌝ }
-{
-    match meaning {
-        Meaning::Nothing => false,
-        Meaning::Call {
-            kind: _,
-            first: _,
-            second: _,
-        } => false,
-        Meaning::Unreadable => true,
-    }
-}
-
 fn at_end(place: Place, count: usize) -> ScriptAnswer
     ensures { λ r. ⌜ r ≡ atEndAnswer place count ⌝ }
 {
     match place {
         Place::Outside => ScriptAnswer::Read(count),
         Place::Inside { number, from: _ } => ScriptAnswer::Unreadable(number),
-    }
-}
-
-// The first line starts outside a load.
-fn first_start() -> Start
-    ensures { λ r. ⌜ r ≡ firstStart ⌝ }
-{
-    Start {
-        at: 0,
-        number: 1,
-        place: Place::Outside,
     }
 }
 
@@ -371,15 +339,24 @@ fn read_turn(text: &[u8], start: Start) -> Turn
 fn check(text: &[u8]) -> ScriptAnswer
     ensures { λ r. ⌜ r ≡ verdictOf (scriptOf (now (text .entry))) ⌝ }
 {
-    let mut start = first_start();
+    let mut start = FIRST;
     let mut count = 0;
     while start.at < text.len() {
         let turn = read_turn(text, start);
         let meaning = turn.meaning;
-        if cannot_be_read(meaning) {
-            return ScriptAnswer::Unreadable(start.number);
+        match meaning {
+            Meaning::Nothing => {}
+            Meaning::Call {
+                kind: _,
+                first: _,
+                second: _,
+            } => {
+                count += 1;
+            }
+            Meaning::Unreadable => {
+                return ScriptAnswer::Unreadable(start.number);
+            }
         }
-        count += calls_in(meaning);
         start = turn.next;
     }
     let place = start.place;
@@ -413,7 +390,7 @@ fn write_calls(text: &[u8], calls: &mut [u64])
     requires { ⌜ Fits (scriptOf (now text)) (length (now calls)) ⌝ }
     ensures { λ _. ⌜ now (calls .exit) ≡ callsWritten (scriptOf (now (text .entry))) (now (calls .entry)) ⌝ }
 {
-    let mut start = first_start();
+    let mut start = FIRST;
     let mut to = 0;
     while start.at < text.len() {
         let turn = read_turn(text, start);

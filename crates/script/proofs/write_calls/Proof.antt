@@ -1,7 +1,6 @@
 -- `script::write_calls` meets its contract: the calls left, from where the writing has come, give what all give. Assumes nothing.
 use Prim.Native.Nat.{_+_, _-_}
 use native.Mathlib.Omega.{arith}
-use borrow.Author.Needs.{needs}
 use lib.ListN.{length}
 use Rattle.script.specs.ScriptParts.{Within}
 use Rattle.script.proofs.Turns.{reads-end}
@@ -17,8 +16,7 @@ abbrev μ-loop : tie.MeasureT-loop
 
 loop-holds : tie.Need-loop-holds Inv-loop μ-loop
 loop-holds c =
-    let a = c .before .before .before in
-    rw (c .first-start .ensures) ((omega arith, omega arith), starts (a .args .text .now) (a .args .calls .now) (a .pre))
+    let a = c .before .before in ((omega arith, omega arith), starts (a .args .text .now) (a .args .calls .now) (a .pre))
 
 read-turn-requires : tie.Need-read-turn-requires Inv-loop μ-loop
 read-turn-requires c κs = (c .if1 .taken, c .before .before .loop .inv .0)
@@ -45,7 +43,7 @@ same-length c = c .before .before .loop .inv .1 .same
 returns : tie.Need-returns Inv-loop μ-loop
 returns c =
     let l = c .before .before .loop in
-    ended (l .inv .1) (reads-end (c .before .before .before .before .before .before .args .text .now) (l .start) (c .if1 .left))
+    ended (l .inv .1) (reads-end (c .before .before .before .before .before .args .text .now) (l .start) (c .if1 .left))
 
 pub write-calls-spec : {M : Type 1} → statement M
 write-calls-spec =
@@ -53,7 +51,6 @@ write-calls-spec =
     (tie.spec
     Inv-loop
     μ-loop
-    (λ c κs. search needs)
     loop-holds
     read-turn-requires
     put-call-requires
