@@ -5,5 +5,5 @@ pub mod Front
 pub mod Theorems
 pub mod Entries
 pub mod Grammar
-pub mod Heads
+pub mod LineReader
 pub mod ReadBack

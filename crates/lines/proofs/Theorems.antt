@@ -1,18 +1,18 @@
 -- Theorems of specs/Theorems.antt on lines and comments. Assumes nothing.
 use mathlib.Core.Path.{_≡_, refl, sym, ap, subst, _∙_}
-use mathlib.Core.Logic.{_⊎_, inl, inr, ⊎-elim}
+use mathlib.Core.Logic.{_⊎_, inl, inr}
 use mathlib.Core.Bool.{Bool, true, false, cond}
 use mathlib.Core.List.{List, [], _∷_, _++_}
-use Prim.Native.Nat.{ℕ, zero, suc, _+_, _-_, _≤_, _<_, min}
+use Prim.Native.Nat.{ℕ, zero, suc, _+_, _-_, _≤_, _<_}
 use native.Mathlib.Decide.{decLt}
 use native.Mathlib.Omega.{arith}
 use borrow.Author.Tests.{eqb-true, eqb-false, eq-eqb, ne-eqb}
-use lib.Dec.{eqb, lit<}
+use lib.Dec.{eqb}
 use lib.ListN.{length, getD, take, drop, length-append, length-drop, drop-of-length-le, List·getD-eq-default}
 use lib.Seq.{drop-drop, drop-append-add, getD-take, getD-drop}
 use Rattle.lines.specs.Lines.{lineFeed, semicolon, prepend, lines, find, firstLine}
 use Rattle.lines.specs.Comment.{lineFrom}
-use Rattle.lines.specs.Theorems.{lineAt, written, LinesWritten, startAfter, LinesStart, FindFirst, CommentExactly}
+use Rattle.lines.specs.Theorems.{lineAt, joinedLines, LinesJoined, startAfter, LinesStart, FindFirst, CommentExactly}
 use Rattle.lines.proofs.Places.{find-le, first-length}
 use Rattle.lines.proofs.Front.{front, first-in}
 
@@ -79,29 +79,29 @@ pub lines-start : LinesStart
 unfolding Stands
 lines-start listing i h = stands i listing h
 
--- a byte more before lines is a byte more before what they write
-prepended : (b : ℕ) (line : List ℕ) (rest : List (List ℕ)) → written (prepend b (line ∷ rest)) ≡ b ∷ written (line ∷ rest)
-unfolding written
+-- a byte more before lines is a byte more before what they come to, joined
+prepended : (b : ℕ) (line : List ℕ) (rest : List (List ℕ)) → joinedLines (prepend b (line ∷ rest)) ≡ b ∷ joinedLines (line ∷ rest)
+unfolding joinedLines
 prepended b line rest = refl
 
-Written : List (List ℕ) → List ℕ → Type 0
-Written ls t = (written ls ≡ t) ⊎ (written ls ≡ t ++ (lineFeed ∷ []))
+Joined : List (List ℕ) → List ℕ → Type 0
+Joined ls t = (joinedLines ls ≡ t) ⊎ (joinedLines ls ≡ t ++ (lineFeed ∷ []))
 
 more : (b : ℕ) {x y z : List ℕ} → x ≡ b ∷ y → (y ≡ z) ⊎ (y ≡ z ++ (lineFeed ∷ [])) → (x ≡ b ∷ z) ⊎ (x ≡ (b ∷ z) ++ (lineFeed ∷ []))
 more b e (inl p) = inl (e ∙ ap (λ (l : List ℕ). b ∷ l) p)
 more b e (inr p) = inr (e ∙ ap (λ (l : List ℕ). b ∷ l) p)
 
-one-more : (b : ℕ) (t : List ℕ) {ls : List (List ℕ)} {line : List ℕ} {rest : List (List ℕ)} → ls ≡ line ∷ rest → Written ls t
-    → (v : Bool) → eqb b lineFeed ≡ v → Written (cond v ([] ∷ ls) (prepend b ls)) (b ∷ t)
-unfolding Written written
-one-more b t {ls = ls} s w true e = more b (ap (λ (x : ℕ). x ∷ written ls) (sym (eqb-true b lineFeed e))) w
+one-more : (b : ℕ) (t : List ℕ) {ls : List (List ℕ)} {line : List ℕ} {rest : List (List ℕ)} → ls ≡ line ∷ rest → Joined ls t
+    → (v : Bool) → eqb b lineFeed ≡ v → Joined (cond v ([] ∷ ls) (prepend b ls)) (b ∷ t)
+unfolding Joined joinedLines
+one-more b t {ls = ls} s w true e = more b (ap (λ (x : ℕ). x ∷ joinedLines ls) (sym (eqb-true b lineFeed e))) w
 one-more b t {line = line} {rest = rest} s w false e = rw s (more b (prepended b line rest) (rw s at w))
 
-whole : (t : List ℕ) → Written (lines t) t
-unfolding Written lines written
+whole : (t : List ℕ) → Joined (lines t) t
+unfolding Joined lines joinedLines
 whole [] = inl refl
 whole (b ∷ []) = by (eqb b lineFeed) refl where
-  by : (v : Bool) → eqb b lineFeed ≡ v → Written (cond v ([] ∷ []) ((b ∷ []) ∷ [])) (b ∷ [])
+  by : (v : Bool) → eqb b lineFeed ≡ v → Joined (cond v ([] ∷ []) ((b ∷ []) ∷ [])) (b ∷ [])
   by true e = inl (ap (λ (x : ℕ). x ∷ []) (sym (eqb-true b lineFeed e)))
   by false e = inr refl
 whole (b ∷ c ∷ t) = one-more b (c ∷ t) (front (c ∷ t) (omega arith)) (whole (c ∷ t)) (eqb b lineFeed) refl
@@ -115,9 +115,9 @@ no-feed t j e =
           let z : getD (firstLine t) j 0 ≡ 0 = List·getD-eq-default (firstLine t) 0 (omega (arith, first-length t)) in omega (arith, z, e)
     ]
 
-pub lines-written : LinesWritten
-unfolding Written Stands
-lines-written listing = (
+pub lines-joined : LinesJoined
+unfolding Joined Stands
+lines-joined listing = (
   whole listing,
   λ i j e.
       elim (decLt i (length (lines listing))) [

@@ -1,5 +1,5 @@
 -- What the contracts of `lines` cite.
 pub mod Lines
 pub mod Comment
-pub mod Heads
+pub mod LineReader
 pub mod Theorems

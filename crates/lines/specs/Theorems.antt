@@ -17,17 +17,17 @@ digitAt line i = digitValue (byteAt line i)
 abbrev pub lineAt : List ℕ → ℕ → List ℕ
 lineAt listing i = getD (lines listing) i []
 
--- lines written one after the other, each with an LF
-unfoldable pub written : List (List ℕ) → List ℕ
-written [] = []
-written (line ∷ rest) = line ++ (lineFeed ∷ written rest)
+-- lines one after the other, each with an LF
+unfoldable pub joinedLines : List (List ℕ) → List ℕ
+joinedLines [] = []
+joinedLines (line ∷ rest) = line ++ (lineFeed ∷ joinedLines rest)
 
--- written so, the lines are the listing, but for an LF that the last line may lack; and no line holds one (proved as
--- `lines-written`; that no empty line is added at the end is in the next)
-abbrev pub LinesWritten : Type 0
-LinesWritten =
+-- joined so, the lines are the listing, but for an LF that the last line may lack; and no line holds one (proved as
+-- `lines-joined`; that no empty line is added at the end is in the next)
+abbrev pub LinesJoined : Type 0
+LinesJoined =
     (listing : List ℕ)
-    → ((written (lines listing) ≡ listing) ⊎ (written (lines listing) ≡ listing ++ (lineFeed ∷ [])))
+    → ((joinedLines (lines listing) ≡ listing) ⊎ (joinedLines (lines listing) ≡ listing ++ (lineFeed ∷ [])))
     × ((i j : ℕ) → getD (lineAt listing i) j 0 ≡ lineFeed → ⊥)
 
 -- where the line after some lines starts: past their bytes and an LF for each

@@ -6,7 +6,7 @@ ghost use lib.Dec.{leb};
 ghost use lib.ListN.{length, drop};
 ghost use Rattle.hex.specs.Digits.{digitValue, Holds};
 ghost use Rattle.lines.specs.Lines.{find, firstLine, afterSpaces, fourDigits, numberAt, entryFrom, readLine};
-ghost use Rattle.lines.specs.Heads.{headOf, headLength, headAlone, lineFrom};
+ghost use Rattle.lines.specs.LineReader.{entryAtFront, entryLength, entryAlone, lineWith};
 ghost use Rattle.lines.specs.declared.Line.the-variants.{IllFormed};
 ghost use Rattle.lines.specs.Comment.{commentText, commentStart};
 
@@ -66,6 +66,13 @@ fn place_of(s: &[u8], b: u8) -> usize
         i += 1;
     }
     i
+}
+
+// How many bytes the line at the front has, the LF not counted.
+pub fn line_length(rest: &[u8]) -> usize
+    ensures { λ r. ⌜ r ≡ length (firstLine (now (rest .entry))) ⌝ }
+{
+    place_of(rest, LINE_FEED)
 }
 
 // What follows the spaces at the front.
@@ -138,9 +145,9 @@ fn entry_from(address: u32, between: u8, word: u32) -> Line
 }
 
 // What the first nine bytes say: an entry's numbers, or no entry. None of an entry's is an LF, so its line's end need not be known.
-fn head_of(table: &[u8; 256], rest: &[u8]) -> Line
-    ensures within { λ r. ⌜ headLength r ≤ length (now (rest .entry)) ⌝ }
-    ensures says { λ r. ⌜ (Holds (now (table .entry)) → r ≡ headOf (now (rest .entry))) ⌝ }
+fn entry_at_front(table: &[u8; 256], rest: &[u8]) -> Line
+    ensures within { λ r. ⌜ entryLength r ≤ length (now (rest .entry)) ⌝ }
+    ensures says { λ r. ⌜ (Holds (now (table .entry)) → r ≡ entryAtFront (now (rest .entry))) ⌝ }
 {
     if rest.len() < 9 {
         return Line::IllFormed;
@@ -150,10 +157,10 @@ fn head_of(table: &[u8; 256], rest: &[u8]) -> Line
     entry_from(address, rest[4], word)
 }
 
-fn head_length(head: Line) -> usize
-    ensures { λ r. ⌜ r ≡ headLength head ⌝ }
+fn entry_length(front: Line) -> usize
+    ensures { λ r. ⌜ r ≡ entryLength front ⌝ }
 {
-    match head {
+    match front {
         Line::Blank => 0,
         Line::Entry {
             address: _,
@@ -163,29 +170,29 @@ fn head_length(head: Line) -> usize
     }
 }
 
-// A line whose head nothing but spaces follows.
-fn alone(head: Line) -> Line
-    ensures { λ r. ⌜ r ≡ headAlone head ⌝ }
+// What a line says where nothing but spaces follows its entry; blank where it has none.
+fn entry_alone(front: Line) -> Line
+    ensures { λ r. ⌜ r ≡ entryAlone front ⌝ }
 {
-    match head {
-        Line::Blank => head,
+    match front {
+        Line::Blank => front,
         Line::Entry {
             address: _,
             word: _,
-        } => head,
+        } => front,
         Line::IllFormed => Line::Blank,
     }
 }
 
-// What a line says, by its head and what follows the head and spaces.
-fn line_from(head: Line, t: &[u8]) -> Line
-    ensures { λ r. ⌜ r ≡ lineFrom head (now (t .entry)) ⌝ }
+// What a line says, by the entry at its front and what follows that and spaces.
+fn line_with(front: Line, t: &[u8]) -> Line
+    ensures { λ r. ⌜ r ≡ lineWith front (now (t .entry)) ⌝ }
 {
     if t.len() == 0 {
-        return alone(head);
+        return entry_alone(front);
     }
     if t[0] == SEMICOLON {
-        return head;
+        return front;
     }
     Line::IllFormed
 }
@@ -195,47 +202,40 @@ fn first_line(s: &[u8]) -> &[u8]
     ensures text { λ r. ⌜ now r ≡ firstLine (now (s .entry)) ⌝ }
     ensures place { λ r. ⌜ r .ptr ≡ s .entry .ptr ⌝ }
 {
-    let n = place_of(s, LINE_FEED);
+    let n = line_length(s);
     &s[..n]
 }
 
-// The line reader for many lines, lent the digits' table. Any table is taken; the answer is promised where the table holds the digits, and is
-// free where it does not, which nothing uses.
+// The line reader: given what is left of a listing, it reads the line at its front; where nothing is left, a blank one. It is lent the
+// digits' table. Any table is taken; the answer is promised where the table holds the digits, and is free where it does not, which nothing
+// uses.
 pub fn read_line_by(table: &[u8; 256], rest: &[u8]) -> Read
     ensures { λ r. ⌜ (Holds (now (table .entry)) → (r .line ≡ readLine (firstLine (now (rest .entry)))) × (r .length ≡ length (firstLine (now (rest .entry))))) ⌝ }
 {
-    let head = head_of(table, rest);
-    let n = head_length(head);
+    let front = entry_at_front(table, rest);
+    let n = entry_length(front);
     let text = first_line(&rest[n..]);
-    let line = line_from(head, after_spaces(text));
+    let line = line_with(front, after_spaces(text));
     Read {
         line,
         length: n + text.len(),
     }
 }
 
-// The same for a line that is known not to be ill-formed: what follows its head is not looked at. Of an ill-formed line the length is
+// The same for a line that is known not to be ill-formed: what follows its entry is not looked at. Of an ill-formed line the length is
 // promised, and what the line says is free, which nothing uses.
 pub fn read_sound_line_by(table: &[u8; 256], rest: &[u8]) -> Read
     ensures line { λ r. ⌜ (Holds (now (table .entry)) → (readLine (firstLine (now (rest .entry))) ≡ IllFormed → ⊥) → r .line ≡ readLine (firstLine (now (rest .entry)))) ⌝ }
     ensures length { λ r. ⌜ (Holds (now (table .entry)) → r .length ≡ length (firstLine (now (rest .entry)))) ⌝ }
 {
-    let head = head_of(table, rest);
-    let n = head_length(head);
-    let line = alone(head);
-    let m = place_of(&rest[n..], LINE_FEED);
+    let front = entry_at_front(table, rest);
+    let n = entry_length(front);
+    let line = entry_alone(front);
+    let m = line_length(&rest[n..]);
     Read {
         line,
         length: n + m,
     }
-}
-
-// The line reader: given what is left of a listing, it reads the line at its front; where nothing is left, a blank one.
-pub fn read_line(rest: &[u8]) -> Read
-    ensures { λ r. ⌜ (r .line ≡ readLine (firstLine (now (rest .entry)))) × (r .length ≡ length (firstLine (now (rest .entry)))) ⌝ }
-{
-    let table = hex::table();
-    read_line_by(&table, rest)
 }
 
 // What follows from a place on; an empty part where that is past the end.

@@ -1,20 +1,16 @@
 -- The theorem `ScriptPlayed` of specs/Played.antt: by induction on the lines. Assumes nothing.
-use mathlib.Core.Path.{_≡_, refl, ap}
-use mathlib.Core.Logic.{_⊎_, inl, inr}
-use mathlib.Core.Bool.{Bool, true, false, cond, _&&_}
+use mathlib.Core.Path.{_≡_, refl}
+use mathlib.Core.Bool.{Bool, true, false, cond}
 use mathlib.Core.List.{List, [], _∷_, _++_}
-use Prim.Native.Nat.{ℕ, _+_, _-_, _*_, _≤_}
+use Prim.Native.Nat.{ℕ, _+_, _-_, _≤_}
 use native.Mathlib.Omega.{arith}
-use borrow.Author.Tests.{leb-true, le-leb}
-use lib.Dec.{leb}
-use lib.ListN.{length, take, drop, getD, length-append}
-use Rattle.lines.specs.Lines.{lineFeed, lines, ends}
+use borrow.Author.Tests.{le-leb}
+use lib.ListN.{length, take, drop}
+use Rattle.lines.specs.Lines.{lines}
 use Rattle.lines.specs.Theorems.{startAfter}
-use Rattle.lines.specs.Theorems as lines
-use Rattle.lines.proofs.Theorems.{lines-written}
 use Rattle.lists.specs.Theorem.{Call, reset, load, run, step, view}
 use Rattle.lists.specs.Replay.{readCall, Reading, listed, following, ahead, readFrom}
-use Rattle.script.specs.Commands.{resetWord, loadWord, endWord, stepWord, viewWord, runWord, begins, says, isDigit, runOf, budgetFrom, budgetOf, commandOf}
+use Rattle.script.specs.Commands.{commandOf}
 use Rattle.script.specs.Script.{isLoad, isEnd, inside, meaningOf, afterOutside, afterInside, placeAfter, Script, calls, unreadable, call, followed, scriptFrom, scriptOf, numbersOf}
 use Rattle.script.specs.Script as script
 use Rattle.script.specs.Played.{Opened, free, loading, said, openedAfter, meant, ScriptPlayed}
@@ -25,67 +21,12 @@ use Rattle.script.specs.declared.Place.the-variants.{Outside, Inside}
 use Rattle.script.specs.declared.Meaning.{Meaning}
 use Rattle.script.specs.declared.Meaning.the-variants as meaning
 use Rattle.script.proofs.Writes.{not-calls}
+use Rattle.script.proofs.Theorems.{Budget, command-fair, Before, lines-bytes}
 
--- a budget that is read has 32 bits
-abbrev Small : Command → Type 0
-Small Blank = Unit
-Small Reset = Unit
-Small Load = Unit
-Small End = Unit
-Small (Run b) = b ≤ 4294967295
-Small Step = Unit
-Small View = Unit
-Small Unknown = Unit
-
-small-cond : (t : Bool) (x y : Command) → Small x → Small y → Small (cond t x y)
-small-cond true x y a b = a
-small-cond false x y a b = b
-
-small-run : (n : ℕ) (ended : Bool) → Small (runOf n ended)
-unfolding runOf
-small-run n ended = by (leb n 4294967295) refl ended where
-  by : (t : Bool) → leb n 4294967295 ≡ t → (ended : Bool) → Small (cond (t && ended) (Run n) Unknown)
-  by true e true = leb-true n 4294967295 e
-  by true e false = tt
-  by false e ended = tt
-
-small-from : (n : ℕ) (t : List ℕ) → Small (budgetFrom n t)
-unfolding budgetFrom
-small-from n [] = small-run n true
-small-from n (b ∷ t) = small-cond (isDigit b) _ _ (small-from (n * 10 + (b - 48)) t) (small-run n (ends (b ∷ t)))
-
-small : (line : List ℕ) → Small (commandOf line)
-unfolding commandOf budgetOf
-small line =
-    small-cond (ends line) Blank _ tt
-    (small-cond (says resetWord line) Reset _ tt
-    (small-cond (says loadWord line) Load _ tt
-    (small-cond (says endWord line) End _ tt
-    (small-cond (says stepWord line) Step _ tt
-    (small-cond (says viewWord line) View _ tt
-    (small-cond (begins runWord line) (budgetOf (drop 4 line)) Unknown
-    (small-cond (isDigit (getD (drop 4 line) 0 0)) (budgetFrom 0 (drop 4 line)) Unknown (small-from 0 (drop 4 line)) tt) tt))))))
-
--- the lines of a text go at most one past its end
-written-length : (ls : List (List ℕ)) → length (lines.written ls) ≡ startAfter ls
-unfolding lines.written startAfter
-written-length [] = refl
-written-length (line ∷ rest) = let more = written-length rest in omega (arith, length-append line (lineFeed ∷ lines.written rest))
-
-lines-fit : (text : List ℕ) → startAfter (lines text) ≤ length text + 1
-lines-fit text = by (lines-written text .0) where
-  by : (lines.written (lines text) ≡ text) ⊎ (lines.written (lines text) ≡ text ++ (lineFeed ∷ [])) → startAfter (lines text) ≤ length text + 1
-  by (inl e) = omega (arith, written-length (lines text), ap length e)
-  by (inr e) = omega (arith, written-length (lines text), ap length e, length-append text (lineFeed ∷ []))
-
--- a place, by the offset alone; and a load's listing starts no later than the line
+-- a place, by the offset alone
 abbrev openedAt : Place → Opened
 openedAt Outside = free
 openedAt (Inside number from) = loading from
-
-abbrev Before : Place → ℕ → Type 0
-Before Outside start = Unit
-Before (Inside number from) start = from ≤ start
 
 module _ (number next : ℕ) where
   opened-after : (place : Place) (command : Command)
@@ -120,7 +61,7 @@ module _ (text : List ℕ) where
       × (s ≡ c ∷ [])
   Means meaning.Unreadable s = Unit
 
-  means : (place : Place) (command : Command) (start : ℕ) → Small command → Before place start → start ≤ length text
+  means : (place : Place) (command : Command) (start : ℕ) → Budget command → Before place start → start ≤ length text
       → Means (meaningOf place command start) (said text (openedAt place) command start)
   unfolding Means
   means Outside Blank start s b h = refl
@@ -159,7 +100,7 @@ module _ (text : List ℕ) where
       one-more (meaningOf place command start) (said text (openedAt place) command start) number
       (scriptFrom (placeAfter place command number next) (number + 1) next rest)
       (meant text (openedAfter (openedAt place) command next) next rest)
-      (means place command start (small line) b (omega arith))
+      (means place command start (command-fair line .small) b (omega arith))
       (λ j left r.
       rw (← opened-after number next place command)
       (played rest (placeAfter place command number next) (number + 1) next (omega arith)
@@ -168,4 +109,4 @@ module _ (text : List ℕ) where
 
 pub script-played : ScriptPlayed
 unfolding scriptOf
-script-played text cs e = played text (lines text) Outside 1 0 (omega (arith, lines-fit text)) tt 0 cs e
+script-played text cs e = played text (lines text) Outside 1 0 (omega (arith, lines-bytes text)) tt 0 cs e

@@ -1,5 +1,5 @@
 -- Theorems of specs/Theorems.antt: by one induction over the lines. Assumes nothing.
-use mathlib.Core.Path.{_≡_, refl, sym, ap, subst, _∙_}
+use mathlib.Core.Path.{_≡_, refl, subst}
 use mathlib.Core.Bool.{Bool, true, false, cond, _&&_}
 use mathlib.Core.List.{List, [], _∷_}
 use Prim.Native.Nat.{ℕ, suc, _+_, _-_, _*_, _≤_}
@@ -20,7 +20,7 @@ use Rattle.script.proofs.Words.{begins-length}
 use Rattle.script.proofs.Writes.{not-calls}
 
 -- how many bytes a command has at least, as far as is asked here
-abbrev needed : Command → ℕ
+abbrev pub needed : Command → ℕ
 needed Blank = 0
 needed Reset = 4
 needed Load = 4
@@ -30,7 +30,7 @@ needed Step = 4
 needed View = 4
 needed Unknown = 0
 
-abbrev Budget : Command → Type 0
+abbrev pub Budget : Command → Type 0
 Budget Blank = Unit
 Budget Reset = Unit
 Budget Load = Unit
@@ -41,9 +41,9 @@ Budget View = Unit
 Budget Unknown = Unit
 
 -- a command that a line of n bytes can say
-record Fair (k : Command) (n : ℕ) : Type 0 where
-  long : needed k ≤ n
-  small : Budget k
+pub record Fair (k : Command) (n : ℕ) : Type 0 where
+  pub long : needed k ≤ n
+  pub small : Budget k
 
 none : (n : ℕ) → Fair Unknown n
 none n = record { long = omega arith; small = tt }
@@ -76,7 +76,7 @@ says-length word line = by (begins word line) refl where
   by true e t = begins-length word line e
   by false e t = let z : _≡_ {A = ℕ} 0 1 = cc in absurd (omega arith)
 
-command-fair : (line : List ℕ) → Fair (commandOf line) (length line)
+pub command-fair : (line : List ℕ) → Fair (commandOf line) (length line)
 unfolding commandOf
 command-fair line =
     when (ends line) (λ e. record { long = omega arith; small = tt })
@@ -88,9 +88,9 @@ command-fair line =
     (when (begins runWord line) (λ e. budget-fair (drop 4 line) (begins-length runWord line e)) (none (length line))))))))
 
 -- a load that is open starts before the place reached, and its own line has paid for its call
-abbrev Opened : Place → ℕ → Type 0
-Opened Outside start = Unit
-Opened (Inside number from) start = from ≤ start
+abbrev pub Before : Place → ℕ → Type 0
+Before Outside start = Unit
+Before (Inside number from) start = from ≤ start
 
 abbrev paid : Place → ℕ
 paid Outside = 0
@@ -121,8 +121,8 @@ module _ (size : ℕ) where
 
   -- one line of n bytes, with what holds of the lines behind it
   module _ (number start n t : ℕ) (after : Place → Script) (h : start ≤ size)
-      (g : (p : Place) (cs : List Call) → after p ≡ calls cs → Opened p (start + n + 1) → Good size (t + paid p) cs) where
-    line-of : (k : Command) → Fair k n → (place : Place) → Opened place start → (cs : List Call)
+      (g : (p : Place) (cs : List Call) → after p ≡ calls cs → Before p (start + n + 1) → Good size (t + paid p) cs) where
+    line-of : (k : Command) → Fair k n → (place : Place) → Before place start → (cs : List Call)
         → followed (meaningOf place k start) number (after (placeAfter place k number (start + n + 1))) ≡ calls cs
         → Good size (n + 1 + t + paid place) cs
     line-of Blank f Outside o cs e = no-more (g Outside cs e tt) (omega arith)
@@ -147,7 +147,7 @@ module _ (size : ℕ) where
     line-of View f (Inside m from) o cs e = no-more (g (Inside m from) cs e (omega arith)) (omega arith)
     line-of Unknown f (Inside m from) o cs e = no-more (g (Inside m from) cs e (omega arith)) (omega arith)
 
-  all-lines : (ls : List (List ℕ)) (place : Place) (number start : ℕ) → start + startAfter ls ≤ size + 1 → Opened place start
+  all-lines : (ls : List (List ℕ)) (place : Place) (number start : ℕ) → start + startAfter ls ≤ size + 1 → Before place start
       → (cs : List Call) → scriptFrom place number start ls ≡ calls cs → Good size (startAfter ls + paid place) cs
   unfolding scriptFrom startAfter
   all-lines [] place number start h o cs e = no-more (at-end place cs e) (omega arith)
@@ -157,7 +157,7 @@ module _ (size : ℕ) where
       (λ p more q r. all-lines rest p (number + 1) next (omega arith) r more q) (commandOf line) (command-fair line) place o cs e
 
 -- the lines of a text have its bytes, and an LF more at most
-lines-bytes : (t : List ℕ) → startAfter (lines t) ≤ length t + 1
+pub lines-bytes : (t : List ℕ) → startAfter (lines t) ≤ length t + 1
 unfolding lines startAfter
 lines-bytes [] = lit≤ tt
 lines-bytes (b ∷ t) = by (eqb b lineFeed) (lines t) (lines-bytes t) where

@@ -2,16 +2,17 @@
 use mathlib.Core.Path.{_≡_, refl, sym, ap, subst, _∙_}
 use mathlib.Core.Bool.{Bool, true, false, cond}
 use mathlib.Core.List.{List, [], _∷_, _++_}
-use Prim.Native.Nat.{ℕ, suc, _+_, _*_, _/_, _≤_, _<_}
+use Prim.Native.Nat.{ℕ, _+_, _*_, _/_, _≤_, _<_}
 use native.Mathlib.Omega.{arith}
 use borrow.Author.Tests.{leb-true, le-leb, lt-leb}
 use lib.Dec.{leb}
 use lib.ListN.{length, drop}
 use lib.Seq.{sets, sets-eq, length-sets}
-use Rattle.lines.specs.Lines.{lines}
-use Rattle.script.specs.Script.{Call, call, Script, calls, unreadable, followed, atEnd, scriptFrom, scriptOf, numbersOf, Given, gave, scriptRead, verdictOf, callsIn, put, Fits, written}
+use Rattle.script.specs.Script.{Call, call, Script, calls, unreadable, followed, atEnd, scriptOf, numbersOf, Given, gave, scriptRead}
+use Rattle.script.specs.ScriptParts.{scriptAt, verdictOf, callsIn, put, Fits, callsWritten}
 use Rattle.script.specs.declared.Place.{Place}
 use Rattle.script.specs.declared.Place.the-variants.{Outside, Inside}
+use Rattle.script.specs.declared.Start.{Start}
 use Rattle.script.specs.declared.Meaning.{Meaning}
 use Rattle.script.specs.declared.Meaning.the-variants as meaning
 use Rattle.script.specs.declared.ScriptAnswer.{ScriptAnswer}
@@ -33,32 +34,33 @@ all-stored cs old h =
     sym (sets-eq (numbersOf cs) old 0 (omega arith) ∙ ap (λ (n : ℕ). numbersOf cs ++ drop n old) start)
 
 -- writing under way: the calls left, stored from the place reached, give what all give
-pub record Reached (text old : List ℕ) (place : Place) (number at to : ℕ) (list : List ℕ) : Type 0 where
+pub record Reached (text old : List ℕ) (start : Start) (to : ℕ) (list : List ℕ) : Type 0 where
   pub left : List Call
-  pub reads : scriptFrom place number at (lines (drop at text)) ≡ calls left
+  pub reads : scriptAt text start ≡ calls left
   pub room : to + 3 * length left ≤ length list
   pub same : length list ≡ length old
-  pub gives : written (scriptOf text) old ≡ sets list to (numbersOf left)
+  pub gives : callsWritten (scriptOf text) old ≡ sets list to (numbersOf left)
 
-pub starts : (text old : List ℕ) → Fits (scriptOf text) (length old) → Reached text old Outside 1 0 0 old
+abbrev firstStart : Start
+firstStart = record { at = 0; number = 1; place = Outside }
+
+pub starts : (text old : List ℕ) → Fits (scriptOf text) (length old) → Reached text old firstStart 0 old
 unfolding scriptOf
 starts text old = by (scriptOf text) refl where
-  by : (x : Script) → scriptOf text ≡ x → Fits x (length old) → Reached text old Outside 1 0 0 old
+  by : (x : Script) → scriptOf text ≡ x → Fits x (length old) → Reached text old firstStart 0 old
   by (calls cs) e h =
-      record { left = cs; reads = e; room = omega arith; same = refl; gives = ap (λ (x : Script). written x old) e ∙ all-stored cs old h }
+      record { left = cs; reads = e; room = omega arith; same = refl; gives = ap (λ (x : Script). callsWritten x old) e ∙ all-stored cs old h }
   by (unreadable number) e h = absurd h
 
-module _ {text old : List ℕ} {place : Place} {number at to : ℕ} {list : List ℕ} (r : Reached text old place number at to list) where
+module _ {text old : List ℕ} {start : Start} {to : ℕ} {list : List ℕ} (r : Reached text old start to list) where
   -- a line more
-  pub goes-on : (m : Meaning) {next : Place} {at′ : ℕ}
-      → scriptFrom place number at (lines (drop at text)) ≡ followed m number (scriptFrom next (number + 1) at′ (lines (drop at′ text)))
-      → (to + 3 * callsIn m ≤ length list) × Reached text old next (number + 1) at′ (to + 3 * callsIn m) (put m to list)
+  pub goes-on : (m : Meaning) (number : ℕ) {next : Start} → scriptAt text start ≡ followed m number (scriptAt text next)
+      → (to + 3 * callsIn m ≤ length list) × Reached text old next (to + 3 * callsIn m) (put m to list)
   unfolding numbersOf
-  goes-on m {next} {at′} e = by m (scriptFrom next (number + 1) at′ (lines (drop at′ text))) refl (sym e ∙ r .reads) (r .left) refl where
-    by : (m : Meaning) (rest : Script) → scriptFrom next (number + 1) at′ (lines (drop at′ text)) ≡ rest
-        → followed m number rest ≡ calls (r .left) → (left : List Call) → r .left ≡ left
-        → (to + 3 * callsIn m ≤ length list) × Reached text old next (number + 1) at′ (to + 3 * callsIn m) (put m to list)
-    by meaning.Nothing rest q p left l = (
+  goes-on m number {next} e = by m (scriptAt text next) refl (sym e ∙ r .reads) where
+    by : (m : Meaning) (rest : Script) → scriptAt text next ≡ rest → followed m number rest ≡ calls (r .left)
+        → (to + 3 * callsIn m ≤ length list) × Reached text old next (to + 3 * callsIn m) (put m to list)
+    by meaning.Nothing rest q p = (
       omega (arith, r .room),
       record {
         left = r .left;
@@ -68,7 +70,7 @@ module _ {text old : List ℕ} {place : Place} {number at to : ℕ} {list : List
         gives = r .gives ∙ ap (λ (n : ℕ). sets list n (numbersOf (r .left))) (omega arith);
       },
     )
-    by (meaning.Call kind first second) (calls more) q p left l =
+    by (meaning.Call kind first second) (calls more) q p =
         let split : r .left ≡ call kind first second ∷ more = cc in
         let room : to + 3 * length (call kind first second ∷ more) ≤ length list = subst (λ (cs : List Call). to + 3 * length cs ≤ length list) split (r .room) in
         let size = length-sets list to (kind ∷ first ∷ second ∷ []) in (
@@ -84,46 +86,39 @@ module _ {text old : List ℕ} {place : Place} {number at to : ℕ} {list : List
                 ∙ ap (λ (n : ℕ). sets (sets list to (kind ∷ first ∷ second ∷ [])) n (numbersOf more)) (omega arith);
           },
         )
-    by (meaning.Call kind first second) (unreadable k) q p left l = absurd (not-calls p)
-    by meaning.Unreadable rest q p left l = absurd (not-calls p)
+    by (meaning.Call kind first second) (unreadable k) q p = absurd (not-calls p)
+    by meaning.Unreadable rest q p = absurd (not-calls p)
 
-  pub ended : scriptFrom place number at (lines (drop at text)) ≡ atEnd place → list ≡ written (scriptOf text) old
+  pub ended : scriptAt text start ≡ atEnd (start .place) → list ≡ callsWritten (scriptOf text) old
   unfolding numbersOf
-  ended e = by place (sym e ∙ r .reads) where
-    by : (p : Place) → atEnd p ≡ calls (r .left) → list ≡ written (scriptOf text) old
+  ended e = by (start .place) (sym e ∙ r .reads) where
+    by : (p : Place) → atEnd p ≡ calls (r .left) → list ≡ callsWritten (scriptOf text) old
     by Outside q = let none : r .left ≡ [] = cc in sym (r .gives ∙ ap (λ (cs : List Call). sets list to (numbersOf cs)) none)
     by (Inside n from) q = absurd (not-calls q)
 
--- the same, by other names of the place and the list
-pub reached-as : {text old : List ℕ} {place : Place} {number at to to′ : ℕ} {list list′ : List ℕ}
-    → Reached text old place number at to list → to′ ≡ to → list′ ≡ list → Reached text old place number at to′ list′
-reached-as r e f = rw (e, f) r
-
 -- by the verdict
-module _ (x : Script) (old : List ℕ) (count : ℕ) where
-  pub no-room : verdictOf x ≡ answer.Read count → length old / 3 < count → gave answer.NoRoom old ≡ scriptRead x old
-  no-room e h = by x e where
-    by : (x : Script) → verdictOf x ≡ answer.Read count → gave answer.NoRoom old ≡ scriptRead x old
-    by (calls cs) e = let size : length cs ≡ count = cc in rw (lt-leb (3 * length cs) (length old) (omega arith))
-    by (unreadable k) e = let z : _≡_ {A = ℕ} 0 1 = cc in absurd (omega arith)
+read-count : (cs : List Call) {count : ℕ} → verdictOf (calls cs) ≡ answer.Read count → length cs ≡ count
+read-count cs e = cc
 
-  pub fits-when : verdictOf x ≡ answer.Read count → count ≤ length old / 3 → Fits x (length old)
-  fits-when e h = by x e where
-    by : (x : Script) → verdictOf x ≡ answer.Read count → Fits x (length old)
-    by (calls cs) e = let size : length cs ≡ count = cc in omega arith
-    by (unreadable k) e = let z : _≡_ {A = ℕ} 0 1 = cc in absurd (omega arith)
+not-read : {A : Type 0} {count number : ℕ} → answer.Unreadable number ≡ answer.Read count → A
+not-read e = let z : _≡_ {A = ℕ} 0 1 = cc in absurd (omega arith)
 
-  pub as-written : verdictOf x ≡ answer.Read count → count ≤ length old / 3 → gave (answer.Read count) (written x old) ≡ scriptRead x old
-  as-written e h = by x e where
-    by : (x : Script) → verdictOf x ≡ answer.Read count → gave (answer.Read count) (written x old) ≡ scriptRead x old
-    by (calls cs) e = let size : length cs ≡ count = cc in rw (le-leb (3 * length cs) (length old) (omega arith), size)
-    by (unreadable k) e = let z : _≡_ {A = ℕ} 0 1 = cc in absurd (omega arith)
+pub no-room : (x : Script) (old : List ℕ) (count : ℕ) → verdictOf x ≡ answer.Read count → length old / 3 < count → gave answer.NoRoom old ≡ scriptRead x old
+no-room (calls cs) old count e h = rw (lt-leb (3 * length cs) (length old) (omega (arith, read-count cs e)))
+no-room (unreadable k) old count e h = not-read e
 
-  pub as-unreadable : verdictOf x ≡ answer.Unreadable count → gave (answer.Unreadable count) old ≡ scriptRead x old
-  as-unreadable e = by x e where
-    by : (x : Script) → verdictOf x ≡ answer.Unreadable count → gave (answer.Unreadable count) old ≡ scriptRead x old
-    by (calls cs) e = let z : _≡_ {A = ℕ} 0 1 = cc in absurd (omega arith)
-    by (unreadable k) e = let same : count ≡ k = cc in rw same
+pub fits-when : (x : Script) (old : List ℕ) (count : ℕ) → verdictOf x ≡ answer.Read count → count ≤ length old / 3 → Fits x (length old)
+fits-when (calls cs) old count e h = omega (arith, read-count cs e)
+fits-when (unreadable k) old count e h = not-read e
+
+pub as-written : (x : Script) (old : List ℕ) (count : ℕ) → verdictOf x ≡ answer.Read count → count ≤ length old / 3
+    → gave (answer.Read count) (callsWritten x old) ≡ scriptRead x old
+as-written (calls cs) old count e h = rw (le-leb (3 * length cs) (length old) (omega (arith, read-count cs e)), read-count cs e)
+as-written (unreadable k) old count e h = not-read e
+
+pub as-unreadable : (x : Script) (old : List ℕ) (number : ℕ) → verdictOf x ≡ answer.Unreadable number → gave (answer.Unreadable number) old ≡ scriptRead x old
+as-unreadable (calls cs) old number e = not-read (sym e)
+as-unreadable (unreadable k) old number e = ap (λ (a : ScriptAnswer). gave a old) (sym e)
 
 pub never-no-room : (x : Script) → verdictOf x ≡ answer.NoRoom → ⊥
 never-no-room (calls cs) e = let z : _≡_ {A = ℕ} 0 1 = cc in omega arith

@@ -2,10 +2,9 @@
 -- `scriptRead`.
 use mathlib.Core.Bool.{Bool, true, false, cond}
 use mathlib.Core.List.{List, [], _∷_, _++_}
-use Prim.Native.Nat.{ℕ, _+_, _*_, _≤_}
+use Prim.Native.Nat.{ℕ, _+_, _*_}
 use lib.Dec.{leb}
 use lib.ListN.{length, drop}
-use lib.Seq.{sets}
 use Rattle.lines.specs.Lines.{lines}
 use Rattle.script.specs.Commands.{commandOf}
 use Rattle.script.specs.declared.Command.{Command}
@@ -122,37 +121,3 @@ scriptRead (calls cs) old =
     cond (leb (3 * length cs) (length old)) (gave (answer.Read (length cs)) (numbersOf cs ++ drop (3 * length cs) old))
     (gave answer.NoRoom old)
 scriptRead (unreadable number) old = gave (answer.Unreadable number) old
-
--- For the functions under `read`. What is found before anything is written:
-abbrev pub verdictOf : Script → ScriptAnswer
-verdictOf (calls cs) = answer.Read (length cs)
-verdictOf (unreadable number) = answer.Unreadable number
-
-abbrev pub atEndAnswer : Place → ℕ → ScriptAnswer
-atEndAnswer Outside count = answer.Read count
-atEndAnswer (Inside number from) count = answer.Unreadable number
-
-abbrev pub callsIn : Meaning → ℕ
-callsIn meaning.Nothing = 0
-callsIn (meaning.Call kind first second) = 1
-callsIn meaning.Unreadable = 0
-
-abbrev pub isUnreadable : Meaning → Bool
-isUnreadable meaning.Nothing = false
-isUnreadable (meaning.Call kind first second) = false
-isUnreadable meaning.Unreadable = true
-
--- one line's call written at a place
-abbrev pub put : Meaning → ℕ → List ℕ → List ℕ
-put meaning.Nothing to old = old
-put (meaning.Call kind first second) to old = sets old to (kind ∷ first ∷ second ∷ [])
-put meaning.Unreadable to old = old
-
--- a script whose calls fit, and what they leave
-abbrev pub Fits : Script → ℕ → Type 0
-Fits (calls cs) size = 3 * length cs ≤ size
-Fits (unreadable number) size = ⊥
-
-abbrev pub written : Script → List ℕ → List ℕ
-written (calls cs) old = numbersOf cs ++ drop (3 * length cs) old
-written (unreadable number) old = old

@@ -1,10 +1,11 @@
 // Scripts: calls as lines of text, read into the numbers that lists::replay takes.
 ghost use mathlib.Core.Path.{_≡_};
-ghost use Prim.Native.Nat.{ℕ, _+_, _*_, _≤_};
+ghost use Prim.Native.Nat.{_+_, _*_, _≤_, _<_};
 ghost use lib.ListN.{length};
 ghost use Rattle.lines.specs.Lines.{ends};
 ghost use Rattle.script.specs.Commands.{begins, says, isDigit, runOf, budgetOf, commandOf};
-ghost use Rattle.script.specs.Script.{outside, isLoad, isEnd, inside, meaningOf, afterOutside, afterInside, placeAfter, scriptOf, gave, scriptRead, verdictOf, atEndAnswer, callsIn, isUnreadable, put, Fits, written};
+ghost use Rattle.script.specs.Script.{outside, isLoad, isEnd, inside, meaningOf, afterOutside, afterInside, placeAfter, followed, scriptOf, gave, scriptRead};
+ghost use Rattle.script.specs.ScriptParts.{scriptAt, Within, verdictOf, atEndAnswer, callsIn, put, Fits, callsWritten};
 
 const SPACE: u8 = 32;
 
@@ -34,6 +35,26 @@ enum Meaning {
     Nothing,
     Call { kind: u64, first: u64, second: u64 },
     Unreadable,
+}
+
+// Where a line starts: its offset, its number, from 1, and its place.
+struct Start {
+    at: usize,
+    number: usize,
+    place: Place,
+}
+
+// The first line.
+const FIRST: Start = Start {
+    at: 0,
+    number: 1,
+    place: Place::Outside,
+};
+
+// What a line comes to, and where the next one starts.
+struct Turn {
+    meaning: Meaning,
+    next: Start,
 }
 
 // How many calls a script has; or the number, from 1, of the first line that cannot be read (of a load that is never ended, the line
@@ -283,34 +304,6 @@ fn place_after(place: Place, command: Command, number: usize, next: usize) -> Pl
     }
 }
 
-fn calls_in(meaning: Meaning) -> usize
-    ensures { λ r. ⌜ r ≡ callsIn meaning ⌝ }
-{
-    match meaning {
-        Meaning::Nothing => 0,
-        Meaning::Call {
-            kind: _,
-            first: _,
-            second: _,
-        } => 1,
-        Meaning::Unreadable => 0,
-    }
-}
-
-fn cannot_be_read(meaning: Meaning) -> bool
-    ensures { λ r. ⌜ r ≡ isUnreadable meaning ⌝ }
-{
-    match meaning {
-        Meaning::Nothing => false,
-        Meaning::Call {
-            kind: _,
-            first: _,
-            second: _,
-        } => false,
-        Meaning::Unreadable => true,
-    }
-}
-
 fn at_end(place: Place, count: usize) -> ScriptAnswer
     ensures { λ r. ⌜ r ≡ atEndAnswer place count ⌝ }
 {
@@ -320,27 +313,53 @@ fn at_end(place: Place, count: usize) -> ScriptAnswer
     }
 }
 
-// What a script is, with nothing written yet. The line reader of listings says how long a line is.
+// Reads one line: what the lines from its start on are is what it comes to, followed by the lines from the next start on.
+fn read_turn(text: &[u8], start: Start) -> Turn
+    requires { ⌜ (start .at < length (now text)) × Within (now text) start ⌝ }
+    ensures reads { λ r. ⌜ scriptAt (now (text .entry)) start ≡ followed (r .meaning) (start .number) (scriptAt (now (text .entry)) (r .next)) ⌝ }
+    ensures goes { λ r. ⌜ (start .at < r .next .at) × Within (now (text .entry)) (r .next) ⌝ }
+{
+    let at = start.at;
+    let number = start.number;
+    let place = start.place;
+    let rest = &text[at..];
+    let length = lines::line_length(rest);
+    let command = read_command(&rest[..length]);
+    let meaning = meaning_of(place, command, at);
+    let after = at + length + 1;
+    let next = Start {
+        at: after,
+        number: number + 1,
+        place: place_after(place, command, number, after),
+    };
+    Turn { meaning, next }
+}
+
+// What a script is, with nothing written yet.
 fn check(text: &[u8]) -> ScriptAnswer
     ensures { λ r. ⌜ r ≡ verdictOf (scriptOf (now (text .entry))) ⌝ }
 {
-    let mut at = 0;
-    let mut number = 1;
+    let mut start = FIRST;
     let mut count = 0;
-    let mut place = Place::Outside;
-    while at < text.len() {
-        let read = lines::read_line(&text[at..]);
-        let end = at + read.length;
-        let command = read_command(&text[at..end]);
-        let meaning = meaning_of(place, command, at);
-        if cannot_be_read(meaning) {
-            return ScriptAnswer::Unreadable(number);
+    while start.at < text.len() {
+        let turn = read_turn(text, start);
+        let meaning = turn.meaning;
+        match meaning {
+            Meaning::Nothing => {}
+            Meaning::Call {
+                kind: _,
+                first: _,
+                second: _,
+            } => {
+                count += 1;
+            }
+            Meaning::Unreadable => {
+                return ScriptAnswer::Unreadable(start.number);
+            }
         }
-        at = end + 1;
-        place = place_after(place, command, number, at);
-        count += calls_in(meaning);
-        number += 1;
+        start = turn.next;
     }
+    let place = start.place;
     at_end(place, count)
 }
 
@@ -369,21 +388,15 @@ fn put_call(calls: &mut [u64], to: usize, meaning: Meaning) -> usize
 // Writes the calls of a script that can be read and whose calls fit.
 fn write_calls(text: &[u8], calls: &mut [u64])
     requires { ⌜ Fits (scriptOf (now text)) (length (now calls)) ⌝ }
-    ensures { λ _. ⌜ now (calls .exit) ≡ written (scriptOf (now (text .entry))) (now (calls .entry)) ⌝ }
+    ensures { λ _. ⌜ now (calls .exit) ≡ callsWritten (scriptOf (now (text .entry))) (now (calls .entry)) ⌝ }
 {
-    let mut at = 0;
-    let mut number = 1;
+    let mut start = FIRST;
     let mut to = 0;
-    let mut place = Place::Outside;
-    while at < text.len() {
-        let read = lines::read_line(&text[at..]);
-        let end = at + read.length;
-        let command = read_command(&text[at..end]);
-        let meaning = meaning_of(place, command, at);
+    while start.at < text.len() {
+        let turn = read_turn(text, start);
+        let meaning = turn.meaning;
         to = put_call(calls, to, meaning);
-        at = end + 1;
-        place = place_after(place, command, number, at);
-        number += 1;
+        start = turn.next;
     }
 }
 

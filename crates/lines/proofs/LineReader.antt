@@ -1,8 +1,8 @@
--- A line by its head: what nine bytes say, and what follows them. Assumes nothing.
+-- A line by the entry at its front: what nine bytes say, and what follows them. Assumes nothing.
 use mathlib.Core.Path.{_≡_, refl, sym, ap, _∙_}
 use mathlib.Core.Bool.{Bool, true, false, cond, _&&_, and-false}
-use mathlib.Core.List.{List, [], _∷_, _++_}
-use Prim.Native.Nat.{ℕ, zero, suc, _+_, _-_, _≤_, _<_}
+use mathlib.Core.List.{List, [], _∷_}
+use Prim.Native.Nat.{ℕ, _+_, _-_, _≤_, _<_}
 use native.Mathlib.Nat.{zero-add}
 use native.Mathlib.Decide.{decLt}
 use native.Mathlib.Omega.{arith}
@@ -12,7 +12,7 @@ use lib.ListN.{length, getD, take, drop, List·getD-eq-default}
 use lib.Seq.{getD-take, take-add, drop-at, length-take-le}
 use Rattle.hex.specs.Digits.{digitValue}
 use Rattle.lines.specs.Lines.{lineFeed, space, semicolon, find, firstLine, afterSpaces, isEmpty, nothingOrComment, ends, byteAt, fourDigits, numberAt, entryFrom, entryOf, readLine}
-use Rattle.lines.specs.Heads.{headOf, headLength, headAlone, lineFrom}
+use Rattle.lines.specs.LineReader.{entryAtFront, entryLength, entryAlone, lineWith}
 use Rattle.lines.specs.declared.Line.{Line}
 use Rattle.lines.specs.declared.Line.the-variants.{Blank, Entry, IllFormed}
 use Rattle.lines.proofs.Places.{to-end, find-le, first-length, spaces-over, not-empty, too-short}
@@ -61,7 +61,7 @@ module _ (t : List ℕ) (h : 9 ≤ find lineFeed t) where
       let w = same-number (firstLine t) t 5 5 (λ k l. first-at (5 + k) (omega arith)) in
       rw (a, w, first-at 4 (omega arith), first-drop)
 
--- an entry's head
+-- an entry at the front
 module _ (t : List ℕ) (x y : ℕ) (e : Entered (numberAt t 0) (byteAt t 4) (numberAt t 5) true x y) where
   address-digit : (k : ℕ) → k < 4 → digitValue (getD t (0 + k) 0) < 16
   address-digit = number-exactly t 0 x .0 (e .address, e .address-word) .0
@@ -95,35 +95,35 @@ module _ (t : List ℕ) (x y : ℕ) (e : Entered (numberAt t 0) (byteAt t 4) (nu
       (λ z. no-digit (getD t 0 0) space (address-digit 0 (omega arith)) space-none (sym (first-at t past 0 (omega arith)) ∙ z)) in
       rw s (not-empty (firstLine t) (λ z. omega (arith, l, z)))
 
-  entry-line : readLine (firstLine t) ≡ lineFrom (Entry x y) (afterSpaces (firstLine (drop 9 t)))
+  entry-line : readLine (firstLine t) ≡ lineWith (Entry x y) (afterSpaces (firstLine (drop 9 t)))
   unfolding readLine entryFrom
   entry-line =
       rw (no-blank, first-entry t past, e .address, e .spaced, e .word, lt-ltb x 65536 (e .address-word), lt-ltb y 65536 (e .word-word))
       (by (afterSpaces (firstLine (drop 9 t)))) where
-        by : (u : List ℕ) → cond (nothingOrComment u) (Entry x y) IllFormed ≡ lineFrom (Entry x y) u
+        by : (u : List ℕ) → cond (nothingOrComment u) (Entry x y) IllFormed ≡ lineWith (Entry x y) u
         by [] = refl
         by (b ∷ u) = refl
 
--- fewer than nine bytes have no head
-pub head-short : (t : List ℕ) → length t < 9 → headOf t ≡ IllFormed
-unfolding headOf entryFrom numberAt fourDigits digitValue
-head-short t h =
+-- fewer than nine bytes are no entry
+pub front-short : (t : List ℕ) → length t < 9 → entryAtFront t ≡ IllFormed
+unfolding entryAtFront entryFrom numberAt fourDigits digitValue
+front-short t h =
     let e : getD t 8 0 ≡ 0 = List·getD-eq-default t 0 (omega arith) in
     rw (e, and-false, and-false)
 
-pub head-at-most : (head : Line) → headLength head ≤ 9
-head-at-most Blank = lit≤ tt
-head-at-most (Entry address word) = lit≤ tt
-head-at-most IllFormed = lit≤ tt
+pub entry-at-most : (front : Line) → entryLength front ≤ 9
+entry-at-most Blank = lit≤ tt
+entry-at-most (Entry address word) = lit≤ tt
+entry-at-most IllFormed = lit≤ tt
 
--- what follows a head, by its length and first byte
-pub from-end : (head : Line) (t : List ℕ) → length t ≡ 0 → lineFrom head t ≡ headAlone head
-from-end head [] e = refl
-from-end head (b ∷ t) e = absurd (omega (arith, e))
+-- what follows an entry, by its length and first byte
+pub from-end : (front : Line) (t : List ℕ) → length t ≡ 0 → lineWith front t ≡ entryAlone front
+from-end front [] e = refl
+from-end front (b ∷ t) e = absurd (omega (arith, e))
 
-pub from-byte : (head : Line) (t : List ℕ) → (length t ≡ 0 → ⊥) → lineFrom head t ≡ cond (eqb (getD t 0 0) semicolon) head IllFormed
-from-byte head [] n = absurd (n refl)
-from-byte head (b ∷ t) n = refl
+pub from-byte : (front : Line) (t : List ℕ) → (length t ≡ 0 → ⊥) → lineWith front t ≡ cond (eqb (getD t 0 0) semicolon) front IllFormed
+from-byte front [] n = absurd (n refl)
+from-byte front (b ∷ t) n = refl
 
 -- where there is none, the line is blank or ill-formed
 never : (a b w : ℕ) (v : Bool) → entryFrom a b w true ≡ IllFormed → entryFrom a b w v ≡ IllFormed
@@ -136,21 +136,21 @@ never a b w v = by (ltb a 65536) (eqb b space) (ltb w 65536) v where
   by true false r v e = refl
   by false q r v e = refl
 
-no-entry : (t : List ℕ) → headOf t ≡ IllFormed → entryOf (firstLine t) ≡ IllFormed
-unfolding headOf
+no-entry : (t : List ℕ) → entryAtFront t ≡ IllFormed → entryOf (firstLine t) ≡ IllFormed
+unfolding entryAtFront
 no-entry t e = elim (decLt (length (firstLine t)) 9) [
   | yes h ↦ too-short (firstLine t) h
   | no h ↦ first-entry t (omega (arith, first-length t)) ∙ never (numberAt t 0) (byteAt t 4) (numberAt t 5) (ends (firstLine (drop 9 t))) e
 ]
 
-other-line : (t : List ℕ) → headOf t ≡ IllFormed → readLine (firstLine t) ≡ lineFrom IllFormed (afterSpaces (firstLine t))
+other-line : (t : List ℕ) → entryAtFront t ≡ IllFormed → readLine (firstLine t) ≡ lineWith IllFormed (afterSpaces (firstLine t))
 unfolding readLine
 other-line t e = rw (no-entry t e) (by (afterSpaces (firstLine t))) where
   same : (v : Bool) → IllFormed ≡ cond v IllFormed IllFormed
   same true = refl
   same false = refl
 
-  by : (u : List ℕ) → cond (isEmpty u) Blank IllFormed ≡ lineFrom IllFormed u
+  by : (u : List ℕ) → cond (isEmpty u) Blank IllFormed ≡ lineWith IllFormed u
   by [] = refl
   by (b ∷ u) = same (eqb b semicolon)
 
@@ -163,14 +163,14 @@ never-blank {A} a b w = by (ltb a 65536 && eqb b space && ltb w 65536 && true) w
 
 -- the line, and how many bytes it has
 abbrev Reads : List ℕ → Line → Type 0
-Reads t head =
-    (readLine (firstLine t) ≡ lineFrom head (afterSpaces (firstLine (drop (headLength head) t))))
-    × (length (firstLine t) ≡ headLength head + length (firstLine (drop (headLength head) t)))
+Reads t front =
+    (readLine (firstLine t) ≡ lineWith front (afterSpaces (firstLine (drop (entryLength front) t))))
+    × (length (firstLine t) ≡ entryLength front + length (firstLine (drop (entryLength front) t)))
 
-pub head-line : (t : List ℕ) → Reads t (headOf t)
-unfolding headOf
-head-line t = by (headOf t) refl where
-  by : (h : Line) → headOf t ≡ h → Reads t h
+pub front-line : (t : List ℕ) → Reads t (entryAtFront t)
+unfolding entryAtFront
+front-line t = by (entryAtFront t) refl where
+  by : (h : Line) → entryAtFront t ≡ h → Reads t h
   by Blank e = never-blank (numberAt t 0) (byteAt t 4) (numberAt t 5) e
   by (Entry x y) e =
       let r = entered (numberAt t 0) (byteAt t 4) (numberAt t 5) true x y e in (
@@ -179,20 +179,20 @@ head-line t = by (headOf t) refl where
       )
   by IllFormed e = (other-line t e, omega arith)
 
--- a line that is not ill-formed is what its head says
-pub alone-line : (head : Line) (u : List ℕ) → (lineFrom head u ≡ IllFormed → ⊥) → headAlone head ≡ lineFrom head u
-alone-line head [] n = refl
-alone-line head (b ∷ u) n = by (eqb b semicolon) head n where
-  by : (v : Bool) (h : Line) → (cond v h IllFormed ≡ IllFormed → ⊥) → headAlone h ≡ cond v h IllFormed
+-- a line that is not ill-formed is what the entry at its front says
+pub alone-line : (front : Line) (u : List ℕ) → (lineWith front u ≡ IllFormed → ⊥) → entryAlone front ≡ lineWith front u
+alone-line front [] n = refl
+alone-line front (b ∷ u) n = by (eqb b semicolon) front n where
+  by : (v : Bool) (h : Line) → (cond v h IllFormed ≡ IllFormed → ⊥) → entryAlone h ≡ cond v h IllFormed
   by true Blank n = refl
   by true (Entry x y) n = refl
   by true IllFormed n = absurd (n refl)
   by false h n = absurd (n refl)
 
--- the same by the part of the rest that follows the head
-module _ (t : List ℕ) (head : Line) (n : ℕ) (u : List ℕ) (e : u ≡ firstLine (take (length t - n) (drop n t))) where
-  pub head-read : head ≡ headOf t → n ≡ headLength head → (readLine (firstLine t) ≡ lineFrom head (afterSpaces u)) × (length (firstLine t) ≡ n + length u)
-  head-read h l = rw (e, to-end t n, l, h) (head-line t)
+-- the same by the part of the rest that follows the entry
+module _ (t : List ℕ) (front : Line) (n : ℕ) (u : List ℕ) (e : u ≡ firstLine (take (length t - n) (drop n t))) where
+  pub front-read : front ≡ entryAtFront t → n ≡ entryLength front → (readLine (firstLine t) ≡ lineWith front (afterSpaces u)) × (length (firstLine t) ≡ n + length u)
+  front-read h l = rw (e, to-end t n, l, h) (front-line t)
 
   pub text-fits : n ≤ length t → n + length u ≤ length t
   text-fits h = rw (e, to-end t n) (omega (arith, first-in t n))
