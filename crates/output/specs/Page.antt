@@ -1,0 +1,12 @@
+-- A page of 8,192 bytes.
+use mathlib.Core.Path.{_≡_}
+use mathlib.Core.List.{List}
+use Prim.Native.Nat.{ℕ, _+_, _≤_}
+use lib.ListN.{length}
+use lib.Seq.{sets}
+
+-- bytes put on a page from a place on, where they fit: they stand there one after the other, the rest of the page stays, and the next
+-- place is the one after them
+abbrev pub PutOn : List ℕ → ℕ → List ℕ → List ℕ → ℕ → Type 0
+PutOn page from bytes after next =
+    from + length bytes ≤ 8192 → (after ≡ sets page from bytes) × (next ≡ from + length bytes)
