@@ -4,7 +4,7 @@ ghost use mathlib.Core.Path.{_≡_};
 ghost use mathlib.Core.List.{_++_};
 ghost use Prim.Native.Nat.{_<_};
 ghost use Rattle.text.specs.Text.{wordText};
-ghost use Rattle.output.specs.Page.{PutOn};
+ghost use Rattle.output.specs.Page.{PutOn, NumberPut};
 
 // A place with room on the page; a full page is written out and begun anew.
 fn room(page: &[u8; 8192], at: usize) -> usize
@@ -31,17 +31,14 @@ pub fn put(page: &mut [u8; 8192], from: usize, bytes: &[u8]) -> usize
     at
 }
 
-// A number in base ten.
-pub fn put_number(page: &mut [u8; 8192], at: usize, n: u64) -> usize {
+// Text, then a number in base ten.
+pub fn put_named(page: &mut [u8; 8192], from: usize, name: &[u8], n: u64) -> usize
+    ensures { λ r. ⌜ NumberPut (now (page .entry)) from (now (name .entry)) n (now (page .exit)) r ⌝ }
+{
+    let at = put(page, from, name);
     let mut digits = [0u8; 20];
     let count = io::decimal(n, &mut digits);
     put(page, at, &digits[..count])
-}
-
-// Text, then a number in base ten.
-pub fn put_named(page: &mut [u8; 8192], from: usize, name: &[u8], n: u64) -> usize {
-    let at = put(page, from, name);
-    put_number(page, at, n)
 }
 
 // Text, then a word in hexadecimal.

@@ -5,21 +5,14 @@ ghost use lib.ListN.{length};
 use lists::ReplayAnswer;
 use script::ScriptAnswer;
 
+// A word of an answer. It fits; the remainder only says so.
 fn word(n: u64) -> u16 {
     (n % 65536) as u16
 }
 
-fn bit(n: u64) -> u8 {
-    48 + (n % 2) as u8
-}
-
 fn put_flags(page: &mut [u8; 8192], from: usize, flags: u64) -> usize {
     let at = output::put(page, from, b" NZCV ");
-    output::put(
-        page,
-        at,
-        &[bit(flags / 8), bit(flags / 4), bit(flags / 2), bit(flags)],
-    )
+    output::put(page, at, &text::flags_text(layout::flags_of(flags)))
 }
 
 fn put_stop(page: &mut [u8; 8192], from: usize, stop: u64) -> usize {

@@ -1,0 +1,26 @@
+-- `output::put_named` meets its contract: the text, then the digits that `io::decimal` gives. Assumes nothing.
+use borrow.Author.Needs.{needs}
+use Rattle.output.proofs.Stores.{put-both}
+use Rattle.output.proofs.put_named.Statement.{statement}
+use Rattle.output.proofs.put_named.Tie as tie
+
+returns : tie.Need-returns
+returns c =
+    let a = c .before .before .before .before .before .before .before .before .args in
+    let first = c .before .before .before .before .before .put in
+    let number = c .before .before .before .decimal in
+    let second = c .put2 in
+    record {
+      count = number .result;
+      fewest = number .ensures .1 .0;
+      put =
+          rw (← number .ensures .1 .1)
+          (put-both (a .page .now) (a .name .now) (first .last .0) _ (second .last .0) (a .from) _ _ (first .ensures) (second .ensures));
+    }
+
+pub put-named-spec : {M : Type 1} → statement M
+put-named-spec =
+    tie.close
+    (tie.spec
+    (λ c κs. search needs) (λ c κs. search needs) (λ c. search needs) (λ c. search needs) (λ c κs. search needs)
+    returns)
