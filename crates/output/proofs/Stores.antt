@@ -26,10 +26,15 @@ one-more bytes page from i h =
     ∙ ap (sets page from) (sym (take-suc bytes i 0 h) ∙ ap (λ (n : ℕ). take n bytes) next)
 
 -- put in two parts
-pub put-both : (page some mid others after : List ℕ) (from at next : ℕ) → PutOn page from some mid at → PutOn mid at others after next
+pub put-both : {page some mid others after : List ℕ} {from at next : ℕ} → PutOn page from some mid at → PutOn mid at others after next
     → PutOn page from (some ++ others) after next
-put-both page some mid others after from at next first second h =
+put-both {page} {some} {mid} {others} {after} {from} {at} {next} first second =
     let size = length-append some others in
-    let f = first (omega arith) in
-    let s = second (omega arith) in
-    (s .0 ∙ (λ j. sets (f .0 j) (f .1 j) others) ∙ both some others page from, omega arith)
+    record {
+      stand = λ h.
+          let there = first .place (omega arith) in
+          second .stand (omega arith)
+          ∙ (λ j. sets (first .stand (omega (arith, h, size)) j) (there j) others)
+          ∙ both some others page from;
+      place = λ h. let there = first .place (omega arith) in let next-place = second .place (omega arith) in omega arith;
+    }

@@ -4,7 +4,7 @@ ghost use mathlib.Core.Path.{_≡_};
 ghost use mathlib.Core.List.{_++_};
 ghost use Prim.Native.Nat.{_<_};
 ghost use Rattle.text.specs.Text.{wordText};
-ghost use Rattle.output.specs.Page.{PutOn, NumberPut};
+ghost use Rattle.output.specs.Page.{PutOn, NumberPut, TotalsPut};
 
 // A place with room on the page; a full page is written out and begun anew.
 fn room(page: &[u8; 8192], at: usize) -> usize
@@ -56,7 +56,9 @@ pub fn put_totals(
     cycles: u64,
     instructions: u64,
     letter: u8,
-) -> usize {
+) -> usize
+    ensures { λ r. ⌜ TotalsPut (now (page .entry)) from cycles instructions letter (now (page .exit)) r ⌝ }
+{
     let mut at = put_named(page, from, b"cycles ", cycles);
     at = put_named(page, at, b" instructions ", instructions);
     put(page, at, &[b' ', b'e', b'n', b'd', b' ', letter])

@@ -45,13 +45,14 @@ loop-again c =
     }
 
 returns : tie.Need-returns Inv-loop μ-loop
-returns c = λ h.
+returns c =
     let a = c .before .before .before .args in
     let l = c .before .loop in
-    let left = c .loop-test .left in (
-      l .inv .stand h ∙ ap (sets (a .page .now) (a .from)) (take-all (l .i) (a .bytes .now) (omega (arith, l .inv .all, left))),
-      omega (arith, l .inv .place h, l .inv .all, l .inv .some, left),
-    )
+    let done = take-all (l .i) (a .bytes .now) (omega (arith, l .inv .all, c .loop-test .left)) in
+    record {
+      stand = λ h. l .inv .stand h ∙ ap (sets (a .page .now) (a .from)) done;
+      place = λ h. omega (arith, l .inv .place h, l .inv .all, l .inv .some, c .loop-test .left);
+    }
 
 pub put-spec : {M : Type 1} → statement M
 put-spec =

@@ -6,16 +6,11 @@ use Rattle.output.proofs.put_named.Tie as tie
 
 returns : tie.Need-returns
 returns c =
-    let a = c .before .before .before .before .before .before .before .before .args in
-    let first = c .before .before .before .before .before .put in
     let number = c .before .before .before .decimal in
-    let second = c .put2 in
     record {
       count = number .result;
       fewest = number .ensures .1 .0;
-      put =
-          rw (← number .ensures .1 .1)
-          (put-both (a .page .now) (a .name .now) (first .last .0) _ (second .last .0) (a .from) _ _ (first .ensures) (second .ensures));
+      put = rw (← number .ensures .1 .1) (put-both (c .before .before .before .before .before .put .ensures) (c .put2 .ensures));
     }
 
 pub put-named-spec : {M : Type 1} → statement M

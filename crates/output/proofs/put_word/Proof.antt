@@ -5,12 +5,7 @@ use Rattle.output.proofs.put_word.Statement.{statement}
 use Rattle.output.proofs.put_word.Tie as tie
 
 returns : tie.Need-returns
-returns c =
-    let a = c .before .before .before .before .before .before .before .args in
-    let first = c .before .before .before .before .put in
-    let second = c .put2 in
-    rw (← c .before .before .word-text .ensures)
-    (put-both (a .page .now) (a .name .now) (first .last .0) _ (second .last .0) (a .from) _ _ (first .ensures) (second .ensures))
+returns c = rw (← c .before .before .word-text .ensures) (put-both (c .before .before .before .before .put .ensures) (c .put2 .ensures))
 
 pub put-word-spec : {M : Type 1} → statement M
 put-word-spec =
