@@ -73,15 +73,15 @@ fn put_rows(rows: &mut [u64], mut core: Core, count: u32, memory: &mut [u16])
     }
 }
 
-// The trace of what is loaded. The run, on one copy of the memory, gives the totals, and as many steps on the other the rows. A fresh core
-// and this memory are never refused.
-fn trace_memory(memory: [u16; 16384], rows: &mut [u64]) -> TraceAnswer
-    ensures { λ r. ⌜ traceGave r (now (rows .exit)) ≡ tracedOn memory (now (rows .entry)) ⌝ }
+// The trace of what is loaded. The run, on a copy of the memory, gives the totals, and as many steps on the memory itself the rows. A fresh
+// core and this memory are never refused.
+fn trace_memory(memory: &mut [u16; 16384], rows: &mut [u64]) -> TraceAnswer
+    requires { ⌜ length (now memory) ≡ 16384 ⌝ }
+    ensures { λ r. ⌜ traceGave r (now (rows .exit)) ≡ tracedOn (now (memory .entry)) (now (rows .entry)) ⌝ }
 {
-    let mut first = memory;
-    let mut second = memory;
+    let mut copy = *memory;
     let core = core::fresh();
-    let answer = core.run(1000, &mut first).answer;
+    let answer = core.run(1000, &mut copy).answer;
     let RunAnswer::Ran {
         cycles,
         instructions,
@@ -94,7 +94,7 @@ fn trace_memory(memory: [u16; 16384], rows: &mut [u64]) -> TraceAnswer
     if (rows.len() as u64) < 4 * (count as u64) {
         return TraceAnswer::NoRoom;
     }
-    put_rows(rows, core, count, &mut second);
+    put_rows(rows, core, count, memory);
     TraceAnswer::Traced {
         cycles: cycles,
         instructions: instructions,
@@ -113,7 +113,7 @@ pub fn trace(listing: &[u8], rows: &mut [u64]) -> TraceAnswer
     let mut memory = [0u16; 16384];
     let answer = core::fresh().load(listing, &mut memory).answer;
     match answer {
-        LoadAnswer::Stored(_) => trace_memory(memory, rows),
+        LoadAnswer::Stored(_) => trace_memory(&mut memory, rows),
         LoadAnswer::Faulty(fault, offset) => TraceAnswer::Faulty(fault, offset),
         // 1 and 7, which do not arise from a fresh core and this memory
         LoadAnswer::Refused(_) => TraceAnswer::TooLong,

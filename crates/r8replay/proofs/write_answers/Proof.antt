@@ -6,10 +6,10 @@ use Rattle.r8replay.proofs.write_answers.Statement.{statement}
 use Rattle.r8replay.proofs.write_answers.Tie as tie
 
 abbrev Inv-loop : tie.InvT-loop
-Inv-loop answers page₀ at₀ from₀ t6 page at from = (at ≤ 8192) × (from ≤ length answers)
+Inv-loop answers page₀ at₀ from₀ t5 page at from = from ≤ length answers
 
 abbrev μ-loop : tie.MeasureT-loop
-μ-loop answers page₀ at₀ from₀ t6 page at from = length answers - from
+μ-loop answers page₀ at₀ from₀ t5 page at from = length answers - from
 
 pub write-answers-spec : {M : Type 1} → statement M
 write-answers-spec =
@@ -17,6 +17,7 @@ write-answers-spec =
     (tie.spec
     Inv-loop
     μ-loop
-    (λ c. search needs) (λ c. search needs) (λ c κs. search needs) (λ c κs. search needs) (λ c. search needs)
-    (λ c κs. search needs) (λ c. search needs) (λ c. search needs) (λ c. search needs) (λ c κs. search needs)
+    (λ c. search needs) (λ c. search needs) (λ c. search needs) (λ c. search needs) (λ c. search needs) (λ c. search needs)
+    (λ c κs. search needs) (λ c. search needs) (λ c κs. search needs) (λ c. search needs) (λ c. search needs)
+    (λ c. search needs) (λ c κs. search needs)
     (λ c. search needs))

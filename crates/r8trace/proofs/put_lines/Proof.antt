@@ -5,7 +5,7 @@ use Rattle.r8trace.proofs.put_lines.Statement.{statement}
 use Rattle.r8trace.proofs.put_lines.Tie as tie
 
 abbrev Inv-loop : tie.InvT-loop
-Inv-loop page₀ rows count at₀ i₀ page at i = (at ≤ 8192) × (i ≤ count)
+Inv-loop page₀ rows count at₀ i₀ page at i = i ≤ count
 
 abbrev μ-loop : tie.MeasureT-loop
 μ-loop page₀ rows count at₀ i₀ page at i = count - i

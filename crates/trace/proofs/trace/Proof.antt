@@ -12,12 +12,13 @@ returns c =
 
 returns-2 : tie.Need-returns-2
 returns-2 c =
-    let a = c .before .before .before .before .before .before .before .before .before .before .before .before .before .args in
-    let load = c .before .before .before .before .before .before .before .load in
-    let fresh = c .before .before .before .before .before .before .before .before .before .fresh in
-    let told = c .before .before .before .before .enum-told .given in
+    let test = c .before .before .before .before .before .before .before .before .before .before .before in
+    let a = test .before .before .before .args in
+    let load = c .before .before .before .before .before .before .before .before .load in
+    let fresh = c .before .before .before .before .before .before .before .before .before .before .fresh in
+    let told = c .before .before .before .before .before .enum-told .given in
     c .before .before .trace-memory .ensures
-    ∙ stored-trace (a .listing .now) (a .rows .now) (c .before .before .before .before .before .before .before .before .before .before .if1 .left) (load .result) (fresh .result) _ (load .ensures) (fresh .ensures) _ (told .1)
+    ∙ stored-trace (a .listing .now) (a .rows .now) (test .if1 .left) (load .result) (fresh .result) _ (load .ensures) (fresh .ensures) _ (told .1)
 
 returns-3 : tie.Need-returns-3
 returns-3 c =

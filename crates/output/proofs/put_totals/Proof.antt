@@ -1,0 +1,25 @@
+-- `output::put_totals` meets its contract: cycles, then instructions, then the letter. Assumes nothing.
+use borrow.Author.Needs.{needs}
+use Rattle.output.proofs.Stores.{put-both}
+use Rattle.output.proofs.put_totals.Statement.{statement}
+use Rattle.output.proofs.put_totals.Tie as tie
+
+returns : tie.Need-returns
+returns c =
+    let cycles = c .before .before .before .before .before .before .put-named .ensures in
+    let instructions = c .before .before .before .put-named2 .ensures in
+    record {
+      cyclesCount = cycles .count;
+      cyclesFewest = cycles .fewest;
+      instructionsCount = instructions .count;
+      instructionsFewest = instructions .fewest;
+      put = put-both (put-both (cycles .put) (instructions .put)) (c .put .ensures);
+    }
+
+pub put-totals-spec : {M : Type 1} → statement M
+put-totals-spec =
+    tie.close
+    (tie.spec
+    (λ c. search needs) (λ c κs. search needs) (λ c. search needs) (λ c κs. search needs) (λ c. search needs)
+    (λ c κs. search needs)
+    returns)
