@@ -5,7 +5,8 @@ use native.Mathlib.Omega.{arith}
 use borrow.Author.Needs.{needs}
 use lib.ListN.{length, drop}
 use Rattle.lines.specs.Lines.{lines}
-use Rattle.listing.specs.Listing.{sound, firstFault, checkOf, storeLines}
+use Rattle.listing.specs.Listing.{checkOf, storeLines}
+use Rattle.listing.proofs.Faults.{Sound, sounds}
 use Rattle.listing.proofs.Turns.{turn, sound-here, stored-line, no-store, length-line}
 use Rattle.listing.proofs.store_lines.Statement.{statement}
 use Rattle.listing.proofs.store_lines.Tie as tie
@@ -15,14 +16,14 @@ Inv-loop table listing memory₀ at₀ memory at =
     (storeLines (lines listing) memory₀ ≡ storeLines (lines (drop at listing)) memory)
     × (length memory ≡ length memory₀)
     × (at ≤ length listing + 1)
-    × ((lowest : ℕ) × (firstFault (length memory₀) lowest at (lines (drop at listing)) ≡ sound))
+    × ((lowest : ℕ) × Sound (length memory₀) lowest (lines (drop at listing)))
 
 abbrev μ-loop : tie.MeasureT-loop
 μ-loop table listing memory₀ at₀ memory at = length listing + 1 - at
 
 loop-holds : tie.Need-loop-holds Inv-loop μ-loop
 unfolding checkOf
-loop-holds c = (refl, refl, omega arith, (0, c .before .before .pre .1))
+loop-holds c = (refl, refl, omega arith, (0, sounds _ _ 0 0 (c .before .before .pre .1)))
 
 -- one line more; that the next place is in the listing or just past it also says that the sums fit
 loop-again : tie.Need-loop-again Inv-loop μ-loop
