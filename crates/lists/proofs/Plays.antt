@@ -5,13 +5,13 @@ use Prim.Native.Nat.{ℕ, _+_, _*_, _≤_}
 use native.Mathlib.Omega.{arith}
 use lib.ListN.{length, take, drop, length-append, take-append-drop}
 use Rattle.core.specs.State.{freshCore}
-use Rattle.core.specs.Calls.{Answer}
 use Rattle.core.specs.declared.Core.{Core}
-use Rattle.layout.specs.Layout.{answerNumbers, written, NumberedReply, numbered}
+use Rattle.layout.specs.Layout.{answerNumbers, ontoIfRoom, NumberedReply, numbered}
 use Rattle.layout.proofs.Sizes.{numbers-size}
-use Rattle.layout.proofs.Written.{nothing-written, in-two-parts}
+use Rattle.layout.proofs.Onto.{nothing-written, in-two-parts}
 use Rattle.lists.specs.Theorem.{Call, onCore, playCore}
-use Rattle.lists.specs.Replay.{Reading, listed, noCall, noStretch, following, readFrom, readCalls, numbersOf, Playable, Lent, playedAs, corePlayed}
+use Rattle.lists.specs.Replay.{Reading, listed, noCall, noStretch, following, readFrom, readCalls, numbersOf}
+use Rattle.lists.specs.ReplayParts.{Playable, AfterPlay, afterPlay, corePlayed}
 
 -- a list that can be played is read as calls, and their answers fit
 pub playable : (r : Reading) (room : ℕ) → Playable r room
@@ -46,32 +46,32 @@ numbers-length (call ∷ rest) core memory =
     length-append (answerNumbers (reply .answer)) more ∙ omega arith
 
 -- what a play of some calls leaves, with their answers written from a place on
-abbrev from : List Call → Core → List ℕ → List ℕ → ℕ → Lent
+abbrev from : List Call → Core → List ℕ → List ℕ → ℕ → AfterPlay
 from calls core memory answers to =
     record {
       memory = playCore calls core memory .memory;
-      answers = take to answers ++ written (numbersOf (playCore calls core memory .answers)) (drop to answers);
+      answers = take to answers ++ ontoIfRoom (numbersOf (playCore calls core memory .answers)) (drop to answers);
     }
 
 -- the first of them played, with its reply's numbers
 from-next : (call : Call) (rest : List Call) (core : Core) (memory answers : List ℕ) (to : ℕ) (reply : NumberedReply)
     → reply ≡ numbered (onCore call core memory) → to + 23 * length (call ∷ rest) ≤ length answers
     → from (call ∷ rest) core memory answers to
-    ≡ from rest (reply .core) (reply .memory) (take to answers ++ written (reply .numbers) (drop to answers)) (to + 23)
+    ≡ from rest (reply .core) (reply .memory) (take to answers ++ ontoIfRoom (reply .numbers) (drop to answers)) (to + 23)
 unfolding playCore numbersOf
 from-next call rest core memory answers to reply e room =
     let more = numbersOf (playCore rest (reply .core) (reply .memory) .answers) in
     let size : length (reply .numbers) ≡ 23 =
     ap (λ (x : NumberedReply). length (x .numbers)) e ∙ numbers-size (onCore call core memory .answer) in
     let after : length more ≡ 23 * length rest = numbers-length rest (reply .core) (reply .memory) in
-    let next = take to answers ++ written (reply .numbers) (drop to answers) in
+    let next = take to answers ++ ontoIfRoom (reply .numbers) (drop to answers) in
     ap
-    (λ (x : NumberedReply). playedAs (playCore rest (x .core) (x .memory) .memory)
-    (take to answers ++ written (x .numbers ++ numbersOf (playCore rest (x .core) (x .memory) .answers)) (drop to answers)))
+    (λ (x : NumberedReply). afterPlay (playCore rest (x .core) (x .memory) .memory)
+    (take to answers ++ ontoIfRoom (x .numbers ++ numbersOf (playCore rest (x .core) (x .memory) .answers)) (drop to answers)))
     (sym e)
-    ∙ ap (playedAs (playCore rest (reply .core) (reply .memory) .memory))
+    ∙ ap (afterPlay (playCore rest (reply .core) (reply .memory) .memory))
     (in-two-parts (reply .numbers) more answers to (omega arith)
-    ∙ ap (λ (n : ℕ). take (to + n) next ++ written more (drop (to + n) next)) size)
+    ∙ ap (λ (n : ℕ). take (to + n) next ++ ontoIfRoom more (drop (to + n) next)) size)
 
 -- a play under way: the calls left, from the core, memory and answers reached, give what the whole list gives
 pub record Reached (text calls memory₀ answers₀ : List ℕ) (core : Core) (memory answers : List ℕ) (at to : ℕ) : Type 0 where
@@ -106,7 +106,7 @@ module _ {text calls memory₀ answers₀ : List ℕ} {core : Core} {memory answ
   pub goes-on : (call : Call) (reply : NumberedReply) (next : List ℕ) → at + 3 ≤ length calls
       → readFrom text (r .i) (drop at calls) ≡ following call (readFrom text (r .i + 1) (drop (at + 3) calls))
       → reply ≡ numbered (onCore call core memory) → length (reply .memory) ≡ length memory
-      → next ≡ take to answers ++ written (reply .numbers) (drop to answers) → length next ≡ length answers
+      → next ≡ take to answers ++ ontoIfRoom (reply .numbers) (drop to answers) → length next ≡ length answers
       → (to + 23 ≤ length answers) × Reached text calls memory₀ answers₀ (reply .core) (reply .memory) next (at + 3) (to + 23)
   goes-on call reply next whole ahead e size written same =
       let s = split-first call (readFrom text (r .i + 1) (drop (at + 3) calls)) (r .left) (sym ahead ∙ r .reads) in
@@ -129,11 +129,11 @@ module _ {text calls memory₀ answers₀ : List ℕ} {core : Core} {memory answ
       )
 
   -- no call left
-  pub ends : readFrom text (r .i) (drop at calls) ≡ listed [] → corePlayed (readCalls text calls) memory₀ answers₀ ≡ playedAs memory answers
+  pub ends : readFrom text (r .i) (drop at calls) ≡ listed [] → corePlayed (readCalls text calls) memory₀ answers₀ ≡ afterPlay memory answers
   unfolding playCore numbersOf
   ends none =
       let over : r .left ≡ [] = cc (r .reads) in
       r .gives
       ∙ ap (λ (l : List Call). from l core memory answers to) over
-      ∙ ap (playedAs memory)
+      ∙ ap (afterPlay memory)
       (ap (λ (l : List ℕ). take to answers ++ l) (nothing-written (drop to answers)) ∙ take-append-drop to answers)

@@ -2,14 +2,15 @@
 use mathlib.Core.Path.{_≡_, refl, sym, ap, subst, _∙_}
 use mathlib.Core.Bool.{Bool, cond}
 use mathlib.Core.List.{List, [], _∷_}
-use Prim.Native.Nat.{ℕ, suc, _+_, _-_, _*_, _<_, _≤_}
+use Prim.Native.Nat.{ℕ, _+_, _-_, _*_, _<_, _≤_}
 use native.Mathlib.Omega.{arith}
 use borrow.Author.Tests.{le-leb, lt-leb}
 use lib.Dec.{leb}
 use lib.ListN.{length, take, drop, getD, length-drop, drop-of-length-le}
 use lib.Seq.{drop-drop, take-all}
 use Rattle.lists.specs.Theorem.{Call}
-use Rattle.lists.specs.Replay.{readCall, callOf, Reading, listed, noCall, noStretch, following, ahead, readFrom, verdictOf, frontCall, ReadWhole}
+use Rattle.lists.specs.Replay.{readCall, Reading, listed, noCall, noStretch, following, ahead, readFrom}
+use Rattle.lists.specs.ReplayParts.{verdictOf, frontCall, ReadWhole}
 use Rattle.lists.specs.declared.ListedCall.{ListedCall}
 use Rattle.lists.specs.declared.ReadCall.{ReadCall}
 use Rattle.lists.specs.declared.ReadCall.the-variants as readAs

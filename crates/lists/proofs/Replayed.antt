@@ -8,9 +8,11 @@ use borrow.Author.Tests.{leb-true, le-leb}
 use lib.Dec.{leb}
 use lib.ListN.{length}
 use Rattle.core.specs.State.{freshCore}
-use Rattle.layout.proofs.Written.{fitting}
+use Rattle.layout.specs.Layout.{onto}
+use Rattle.layout.proofs.Onto.{fitting}
 use Rattle.lists.specs.Theorem.{playCore}
-use Rattle.lists.specs.Replay.{Reading, listed, noCall, noStretch, numbersOf, over, machineReplay, replayed, replayGave, verdictOf, Playable, corePlayed}
+use Rattle.lists.specs.Replay.{Reading, listed, noCall, noStretch, numbersOf, machineReplay, replayed, replayGave}
+use Rattle.lists.specs.ReplayParts.{verdictOf, Playable, corePlayed}
 use Rattle.lists.specs.declared.ReplayAnswer.{ReplayAnswer}
 use Rattle.lists.specs.declared.ReplayAnswer.the-variants.{Played, NoCall, NoStretch, NoRoom}
 use Rattle.lists.proofs.Plays.{numbers-length}
@@ -41,7 +43,7 @@ as-played (listed calls) memory answers h =
     let core = playCore calls freshCore memory .answers in
     let size : length (numbersOf core) ≡ 23 * length calls = numbers-length calls freshCore memory in
     ap (λ (b : Bool). cond b (machineReplay calls memory answers) (replayGave NoRoom memory answers)) (le-leb _ _ h)
-    ∙ (λ j. replayGave (cond (room j) (Played (length calls)) NoRoom) (left j) (over (numbersOf (said j)) answers))
+    ∙ (λ j. replayGave (cond (room j) (Played (length calls)) NoRoom) (left j) (onto (numbersOf (said j)) answers))
     ∙ ap (replayGave (verdictOf (listed calls) (length answers)) (playCore calls freshCore memory .memory))
     (sym (fitting (numbersOf core) answers (omega arith)))
 as-played (noCall i) memory answers h = absurd h

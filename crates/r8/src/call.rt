@@ -4,10 +4,9 @@ ghost use Prim.Native.Nat.{_≤_};
 ghost use lib.ListN.{length, take, getD};
 ghost use Rattle.core.specs.Calls.{run, step};
 ghost use Rattle.core.specs.Answers.{runAnswerOf, runGave};
-ghost use Rattle.layout.specs.Layout.{flagsOf, answerNumbers};
-ghost use Rattle.r8.specs.Slices.{onto};
+ghost use Rattle.layout.specs.Layout.{flagsOf, answerNumbers, onto};
 ghost use Rattle.r8.specs.Numbers.{stopOf, hiddenOf, coreOf, registersOf, stateOf, isCore};
-ghost use Rattle.r8.specs.Call.{codeOf, lent, called, onCore};
+ghost use Rattle.r8.specs.Call.{codeOf, slices, called, onCore};
 use core::Core;
 use core::RunReply;
 use effects::Hidden;
@@ -164,7 +163,7 @@ fn called(
     memory: &mut [u16],
     answer: &mut [u64],
 ) -> u32
-    ensures { λ r. ⌜ (r, lent (now (registers .exit)) (now (state .exit)) (now (memory .exit)) (now (answer .exit))) ≡ called (onCore asked) (lent (now (registers .entry)) (now (state .entry)) (now (memory .entry)) (now (answer .entry))) ⌝ }
+    ensures { λ r. ⌜ (r, slices (now (registers .exit)) (now (state .exit)) (now (memory .exit)) (now (answer .exit))) ≡ called (onCore asked) (slices (now (registers .entry)) (now (state .entry)) (now (memory .entry)) (now (answer .entry))) ⌝ }
 {
     let code = code_of(registers, state, answer);
     if code != 0 {
@@ -185,7 +184,7 @@ pub extern "C" fn r8_run(
     memory: &mut [u16],
     answer: &mut [u64],
 ) -> u32
-    ensures { λ r. ⌜ (r, lent (now (registers .exit)) (now (state .exit)) (now (memory .exit)) (now (answer .exit))) ≡ called (run b) (lent (now (registers .entry)) (now (state .entry)) (now (memory .entry)) (now (answer .entry))) ⌝ }
+    ensures { λ r. ⌜ (r, slices (now (registers .exit)) (now (state .exit)) (now (memory .exit)) (now (answer .exit))) ≡ called (run b) (slices (now (registers .entry)) (now (state .entry)) (now (memory .entry)) (now (answer .entry))) ⌝ }
 {
     called(Asked::Run(b), registers, state, memory, answer)
 }
@@ -198,7 +197,7 @@ pub extern "C" fn r8_step(
     memory: &mut [u16],
     answer: &mut [u64],
 ) -> u32
-    ensures { λ r. ⌜ (r, lent (now (registers .exit)) (now (state .exit)) (now (memory .exit)) (now (answer .exit))) ≡ called step (lent (now (registers .entry)) (now (state .entry)) (now (memory .entry)) (now (answer .entry))) ⌝ }
+    ensures { λ r. ⌜ (r, slices (now (registers .exit)) (now (state .exit)) (now (memory .exit)) (now (answer .exit))) ≡ called step (slices (now (registers .entry)) (now (state .entry)) (now (memory .entry)) (now (answer .entry))) ⌝ }
 {
     called(Asked::Step, registers, state, memory, answer)
 }

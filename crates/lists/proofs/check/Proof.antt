@@ -4,7 +4,8 @@ use Prim.Native.Nat.{_+_, _≤_, _-_}
 use native.Mathlib.Omega.{arith}
 use borrow.Author.Needs.{needs}
 use lib.ListN.{length, drop}
-use Rattle.lists.specs.Replay.{Reading, callOf, readFrom, readCalls, verdictOf}
+use Rattle.lists.specs.Replay.{Reading, callOf, readFrom, readCalls}
+use Rattle.lists.specs.ReplayParts.{verdictOf}
 use Rattle.lists.specs.declared.ReadCall.the-variants as readAs
 use Rattle.lists.proofs.Readings.{verdictFrom, verdict-starts, verdict-goes-on, verdict-room, verdict-no-room, reads-at, read-whole, none-left}
 use Rattle.lists.proofs.check.Statement.{statement}

@@ -4,7 +4,8 @@ use native.Mathlib.Omega.{arith}
 use lib.ListN.{length}
 use Rattle.layout.specs.Layout.{numbered}
 use Rattle.lists.specs.Theorem.{onCore}
-use Rattle.lists.specs.Replay.{callOf, FitsIn}
+use Rattle.lists.specs.Replay.{callOf}
+use Rattle.lists.specs.ReplayParts.{FitsIn}
 use Rattle.lists.specs.declared.ListedCall.{ListedCall}
 use borrow.Author.Needs.{needs}
 use Rattle.lists.proofs.play.Statement.{statement}

@@ -5,7 +5,8 @@ use native.Mathlib.Omega.{arith}
 use borrow.Author.Needs.{needs}
 use lib.ListN.{length}
 use Rattle.layout.specs.Layout.{gave}
-use Rattle.lists.specs.Replay.{callOf, ReadFits}
+use Rattle.lists.specs.Replay.{callOf}
+use Rattle.lists.specs.ReplayParts.{ReadFits}
 use Rattle.lists.specs.declared.ReadCall.the-variants as readAs
 use Rattle.lists.proofs.Readings.{reads-at, read-whole, none-left}
 use Rattle.lists.proofs.Plays.{Reached, starts, goes-on, ends, not-listed-call, not-listed-stretch}

@@ -2,7 +2,7 @@
 use mathlib.Core.Path.{sym, ap, _∙_}
 use mathlib.Core.List.{List}
 use Prim.Native.Nat.{ℕ}
-use Rattle.layout.specs.Layout.{written}
+use Rattle.layout.specs.Layout.{ontoIfRoom}
 use Rattle.trace.specs.Trace.{findingOf}
 use Rattle.trace.specs.declared.TraceAnswer.{TraceAnswer}
 use Rattle.r8.specs.Trace.{foundReturned}
@@ -13,13 +13,13 @@ use Rattle.r8.proofs.rows.put_found.Tie as tie
 returns : tie.Need-returns
 returns c =
     let a = c .before .before .before .before .before .before .before .before .before .args .answer .now in
-    let put = c .before .before .put .ensures ∙ ap (λ (n : List ℕ). written n a) (c .before .before .before .run-numbers .ensures) in
+    let put = c .before .before .put .ensures ∙ ap (λ (n : List ℕ). ontoIfRoom n a) (c .before .before .before .run-numbers .ensures) in
     (λ j. (0, put j)) ∙ sym (ap (λ (f : TraceAnswer). foundReturned (findingOf f) a) (c .before .before .before .before .before .before .found .given .1))
 
 returns-2 : tie.Need-returns-2
 returns-2 c =
     let a = c .before .before .before .before .before .before .before .before .before .args .answer .now in
-    let put = c .before .before .put2 .ensures ∙ ap (λ (n : List ℕ). written n a) (c .before .before .before .load-numbers .ensures) in
+    let put = c .before .before .put2 .ensures ∙ ap (λ (n : List ℕ). ontoIfRoom n a) (c .before .before .before .load-numbers .ensures) in
     (λ j. (0, put j)) ∙ sym (ap (λ (f : TraceAnswer). foundReturned (findingOf f) a) (c .before .before .before .before .before .before .found2 .given .1))
 
 returns-3 : tie.Need-returns-3
