@@ -1,6 +1,6 @@
 -- Laws about the layout of answers, and its theorems.
 pub mod Sizes
 pub mod Replies
-pub mod Written
+pub mod Onto
 pub mod Back
 pub mod Theorems

@@ -9,7 +9,7 @@ use Rattle.words.specs.Arithmetic.{bit}
 use Rattle.isa.specs.declared.Flags.{Flags}
 use Rattle.effects.specs.declared.Stop.{Stop}
 use Rattle.effects.specs.declared.Stop.the-variants.{Going, Halted, Undefined}
-use Rattle.core.specs.Cores.{Visible, register}
+use Rattle.core.specs.Cores.{register}
 use Rattle.core.specs.Calls.{Answer, done, stored, ran, viewed, refused, refusedAt, Reply}
 use Rattle.core.specs.declared.Core.{Core}
 use Rattle.text.specs.Text.{letterText}
@@ -70,9 +70,13 @@ answerNumbers (viewed v due clock) =
 answerNumbers (refused number) = padded (4 ∷ number ∷ [])
 answerNumbers (refusedAt number offset) = padded (5 ∷ number ∷ offset ∷ [])
 
--- numbers written over the front of a list; one that is too short for them stays
-abbrev pub written : List ℕ → List ℕ → List ℕ
-written numbers old = cond (leb (length numbers) (length old)) (numbers ++ drop (length numbers) old) old
+-- numbers written from the front of a list on; what is past them stays
+abbrev pub onto : List ℕ → List ℕ → List ℕ
+onto numbers old = numbers ++ drop (length numbers) old
+
+-- a list that is too short for them stays
+abbrev pub ontoIfRoom : List ℕ → List ℕ → List ℕ
+ontoIfRoom numbers old = cond (leb (length numbers) (length old)) (onto numbers old) old
 
 -- a call's reply with its answer as numbers; and what the code of a call gave back, with the memory as it then is
 pub record NumberedReply : Type 0 where

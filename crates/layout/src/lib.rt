@@ -7,7 +7,7 @@ ghost use Rattle.core.specs.Calls.{done, refused, reset, load, run, step, view}
 ghost use Rattle.refusals.specs.Refusals.{refusalNumber};
 ghost use Rattle.core.specs.Answers.{loadAnswerOf, runAnswerOf, viewAnswerOf};
 ghost use Rattle.core.specs.declared.ViewAnswer.the-variants.{Viewed};
-ghost use Rattle.layout.specs.Layout.{padded, flagsNumber, isOdd, flagsOf, stopNumber, answerNumbers, written, numbered, gave};
+ghost use Rattle.layout.specs.Layout.{padded, flagsNumber, isOdd, flagsOf, stopNumber, answerNumbers, ontoIfRoom, numbered, gave};
 use core::Core;
 use core::LoadAnswer;
 use core::RunAnswer;
@@ -206,7 +206,7 @@ pub fn view_numbers(answer: ViewAnswer, snapshot: Snapshot) -> [u64; 23]
 
 // Writes an answer's numbers to the front of a slice; one that is too short stays as it is.
 pub fn put(answers: &mut [u64], numbers: [u64; 23])
-    ensures { λ _. ⌜ now (answers .exit) ≡ written numbers (now (answers .entry)) ⌝ }
+    ensures { λ _. ⌜ now (answers .exit) ≡ ontoIfRoom numbers (now (answers .entry)) ⌝ }
 {
     if answers.len() < 23 {
         return;

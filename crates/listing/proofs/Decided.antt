@@ -5,7 +5,7 @@ use Prim.Native.Nat.{ℕ}
 use native.Mathlib.Omega.{arith}
 use lib.ListN.{length}
 use Rattle.lines.specs.Lines.{lines}
-use Rattle.listing.specs.Answers.{Answer, stored, refused}
+use Rattle.listing.specs.Answers.{stored, refused}
 use Rattle.listing.proofs.Faults.{from-stored}
 use Rattle.listing.specs.Listing.{Check, sound, faulty, wordsIn, storeLines, answerOf, memoryOf, checkOf, listingAnswer, listingMemory}
 

@@ -1,17 +1,17 @@
 -- The first fault of a listing, as a fault of one of its lines. Assumes nothing.
-use mathlib.Core.Path.{_≡_, refl, sym, ap, _∙_}
+use mathlib.Core.Path.{_≡_, refl, ap, _∙_}
 use mathlib.Core.Logic.{_⊎_, inl, inr, ⊎-elim}
 use mathlib.Core.Bool.{Bool, true, false, cond}
 use mathlib.Core.List.{List, [], _∷_}
-use Prim.Native.Nat.{ℕ, zero, suc, _+_, _≤_, _<_}
-use native.Mathlib.Nat.{add-zero, le-of-suc-le-suc}
+use Prim.Native.Nat.{ℕ, zero, suc, _+_, _<_}
+use native.Mathlib.Nat.{le-of-suc-le-suc}
 use native.Mathlib.Omega.{arith}
 use borrow.Author.Tests.{eqb-true, eqb-false, ne-eqb}
 use lib.Dec.{eqb}
 use lib.ListN.{length, getD, take}
 use Rattle.lines.specs.Lines.{readLine}
 use Rattle.lines.specs.Theorems.{startAfter}
-use Rattle.listing.specs.Answers.{Answer, stored, refused}
+use Rattle.listing.specs.Answers.{stored, refused}
 use Rattle.listing.specs.Listing.{lowestAfter, faultOf, Check, sound, faulty, firstOf, firstFault, answerOf}
 use Rattle.listing.specs.Theorems.{lowestOf}
 
@@ -44,12 +44,21 @@ module _ (L : ℕ) where
       ⊎-elim (λ p. p) (λ p. let z : _≡_ {A = ℕ} 0 1 = cc (p .1) in absurd (omega arith))
       (chosen (faultOf L lowest (readLine line)) start (firstFault L (lowestAfter (readLine line) lowest) (start + (length line + 1)) rest) sound e)
 
-  pub sound-all : (ls : List (List ℕ)) (lowest start : ℕ) → firstFault L lowest start ls ≡ sound → (i : ℕ) → i < length ls → faultIn lowest ls i ≡ 0
+  -- so each line, after those before it, has none
+  pub data Sound : ℕ → List (List ℕ) → Type 0 where
+    none : {lowest : ℕ} → Sound lowest []
+    then : (lowest : ℕ) (line : List ℕ) {rest : List (List ℕ)} → faultOf L lowest (readLine line) ≡ 0
+        → Sound (lowestAfter (readLine line) lowest) rest → Sound lowest (line ∷ rest)
+
+  pub sounds : (ls : List (List ℕ)) (lowest start : ℕ) → firstFault L lowest start ls ≡ sound → Sound lowest ls
+  sounds [] lowest start e = none
+  sounds (line ∷ rest) lowest start e = let s = sound-step line rest lowest start e in then lowest line (s .0) (sounds rest _ _ (s .1))
+
+  pub sound-all : {ls : List (List ℕ)} {lowest : ℕ} → Sound lowest ls → (i : ℕ) → i < length ls → faultIn lowest ls i ≡ 0
   unfolding lowestOf
-  sound-all [] lowest start e i h = absurd (omega arith)
-  sound-all (line ∷ rest) lowest start e zero h = sound-step line rest lowest start e .0
-  sound-all (line ∷ rest) lowest start e (suc i) h =
-      sound-all rest (lowestAfter (readLine line) lowest) (start + (length line + 1)) (sound-step line rest lowest start e .1) i (le-of-suc-le-suc h)
+  sound-all none i h = absurd (omega arith)
+  sound-all (then lowest line f r) zero h = f
+  sound-all (then lowest line f r) (suc i) h = sound-all r i (le-of-suc-le-suc h)
 
   pub all-sound : (ls : List (List ℕ)) (lowest start : ℕ) → ((i : ℕ) → i < length ls → faultIn lowest ls i ≡ 0) → firstFault L lowest start ls ≡ sound
   unfolding firstFault lowestOf

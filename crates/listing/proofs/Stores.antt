@@ -12,9 +12,9 @@ use Rattle.lines.specs.Lines.{readLine}
 use Rattle.lines.specs.declared.Line.{Line}
 use Rattle.lines.specs.declared.Line.the-variants.{Blank, Entry, IllFormed}
 use Rattle.lines.proofs.Entries.{same-entry, blank-no-entry, ill-formed-no-entry, no-line}
-use Rattle.listing.specs.Listing.{lowestAfter, addressFault, faultOf, sound, firstFault, wordsOf, wordsIn, storeLine, storeLines}
+use Rattle.listing.specs.Listing.{lowestAfter, addressFault, faultOf, wordsOf, wordsIn, storeLine, storeLines}
 use Rattle.listing.proofs.Turns.{length-line}
-use Rattle.listing.proofs.Faults.{sound-step}
+use Rattle.listing.proofs.Faults.{Sound, none, then}
 
 pub length-lines : (ls : List (List ℕ)) (m : List ℕ) → length (storeLines ls m) ≡ length m
 unfolding storeLines
@@ -75,59 +75,41 @@ module _ (L : ℕ) where
       line-other y m x (λ w e. let s = entry-sound lowest x w y f e in absurd (omega (arith, s)))
 
   -- addresses below the lowest keep their words
-  kept : (ls : List (List ℕ)) (lowest start x : ℕ) (m : List ℕ) → firstFault L lowest start ls ≡ sound → x < lowest
-      → getD (storeLines ls m) x 0 ≡ getD m x 0
+  kept : {ls : List (List ℕ)} {lowest : ℕ} → Sound L lowest ls → (x : ℕ) (m : List ℕ) → x < lowest → getD (storeLines ls m) x 0 ≡ getD m x 0
   unfolding storeLines
-  kept [] lowest start x m e h = refl
-  kept (line ∷ rest) lowest start x m e h =
-      let y = readLine line in
-      let s = sound-step L line rest lowest start e in
-      kept rest (lowestAfter y lowest) (start + (length line + 1)) x (storeLine y m) (s .1) (omega (arith, line-counts lowest y (s .0)))
-      ∙ line-kept lowest x m y (s .0) h
+  kept none x m h = refl
+  kept (then lowest line f r) x m h =
+      kept r x (storeLine (readLine line) m) (omega (arith, line-counts lowest (readLine line) f)) ∙ line-kept lowest x m (readLine line) f h
 
   -- each line's word stands at its address
-  pub said : (ls : List (List ℕ)) (lowest start : ℕ) (m : List ℕ) → length m ≡ L → firstFault L lowest start ls ≡ sound
+  pub said : {ls : List (List ℕ)} {lowest : ℕ} → Sound L lowest ls → (m : List ℕ) → length m ≡ L
       → (i a w : ℕ) → readLine (getD ls i []) ≡ Entry a w → getD (storeLines ls m) a 0 ≡ w
   unfolding storeLines
-  said [] lowest start m l e i a w p = no-line a w p
-  said (line ∷ rest) lowest start m l e zero a w p =
-      let s = sound-step L line rest lowest start e in
-      let t = entry-sound lowest a w (readLine line) (s .0) p in
-      kept rest (lowestAfter (readLine line) lowest) (start + (length line + 1)) a (storeLine (readLine line) m) (s .1)
-      (rw p (omega arith))
-      ∙ rw p (getD-set-same m a w 0 (omega (arith, t, l)))
-  said (line ∷ rest) lowest start m l e (suc i) a w p =
-      said rest (lowestAfter (readLine line) lowest) (start + (length line + 1)) (storeLine (readLine line) m) (length-line (readLine line) m ∙ l)
-      (sound-step L line rest lowest start e .1) i a w p
+  said none m l i a w p = no-line a w p
+  said (then lowest line f r) m l zero a w p =
+      let t = entry-sound lowest a w (readLine line) f p in
+      kept r a (storeLine (readLine line) m) (rw p (omega arith)) ∙ rw p (getD-set-same m a w 0 (omega (arith, t, l)))
+  said (then lowest line f r) m l (suc i) a w p = said r (storeLine (readLine line) m) (length-line (readLine line) m ∙ l) i a w p
 
   -- addresses rise from the lowest on, and lie below L
-  pub bounded : (ls : List (List ℕ)) (lowest start : ℕ) → firstFault L lowest start ls ≡ sound
-      → (i a w : ℕ) → readLine (getD ls i []) ≡ Entry a w → (a < L) × (lowest ≤ a)
-  bounded [] lowest start e i a w p = no-line a w p
-  bounded (line ∷ rest) lowest start e zero a w p = entry-sound lowest a w (readLine line) (sound-step L line rest lowest start e .0) p
-  bounded (line ∷ rest) lowest start e (suc i) a w p =
-      let s = sound-step L line rest lowest start e in
-      let r = bounded rest (lowestAfter (readLine line) lowest) (start + (length line + 1)) (s .1) i a w p in
-      (r .0, omega (arith, r .1, line-counts lowest (readLine line) (s .0)))
+  pub bounded : {ls : List (List ℕ)} {lowest : ℕ} → Sound L lowest ls → (i a w : ℕ) → readLine (getD ls i []) ≡ Entry a w → (a < L) × (lowest ≤ a)
+  bounded none i a w p = no-line a w p
+  bounded (then lowest line f r) zero a w p = entry-sound lowest a w (readLine line) f p
+  bounded (then lowest line f r) (suc i) a w p =
+      let b = bounded r i a w p in (b .0, omega (arith, b .1, line-counts lowest (readLine line) f))
 
-  pub rises : (ls : List (List ℕ)) (lowest start : ℕ) → firstFault L lowest start ls ≡ sound
+  pub rises : {ls : List (List ℕ)} {lowest : ℕ} → Sound L lowest ls
       → (i j a b w v : ℕ) → i < j → readLine (getD ls i []) ≡ Entry a w → readLine (getD ls j []) ≡ Entry b v → a < b
-  rises [] lowest start e i j a b w v h p q = no-line a w p
-  rises (line ∷ rest) lowest start e i zero a b w v h p q = absurd (omega (arith, h))
-  rises (line ∷ rest) lowest start e zero (suc j) a b w v h p q =
-      let s = sound-step L line rest lowest start e in
-      let r = bounded rest (lowestAfter (readLine line) lowest) (start + (length line + 1)) (s .1) j b v q in
-      omega (arith, rw p at (r .1))
-  rises (line ∷ rest) lowest start e (suc i) (suc j) a b w v h p q =
-      rises rest (lowestAfter (readLine line) lowest) (start + (length line + 1)) (sound-step L line rest lowest start e .1) i j a b w v
-      (omega (arith, h)) p q
+  rises none i j a b w v h p q = no-line a w p
+  rises (then lowest line f r) i zero a b w v h p q = absurd (omega (arith, h))
+  rises (then lowest line f r) zero (suc j) a b w v h p q = let n = bounded r j b v q in omega (arith, rw p at (n .1))
+  rises (then lowest line f r) (suc i) (suc j) a b w v h p q = rises r i j a b w v (omega (arith, h)) p q
 
   -- as many words as addresses from the lowest up to a limit
-  pub at-most : (K : ℕ) (ls : List (List ℕ)) (lowest start : ℕ) → firstFault L lowest start ls ≡ sound
+  pub at-most : (K : ℕ) {ls : List (List ℕ)} {lowest : ℕ} → Sound L lowest ls
       → ((i a w : ℕ) → readLine (getD ls i []) ≡ Entry a w → a < K) → lowest ≤ K → wordsIn ls + lowest ≤ K
   unfolding wordsIn
-  at-most K [] lowest start e b h = omega arith
-  at-most K (line ∷ rest) lowest start e b h =
-      let s = sound-step L line rest lowest start e in
-      let r = at-most K rest (lowestAfter (readLine line) lowest) (start + (length line + 1)) (s .1) (λ i. b (suc i)) (lowest-le K lowest (readLine line) (b 0) h) in
-      omega (arith, r, line-counts lowest (readLine line) (s .0))
+  at-most K none b h = omega arith
+  at-most K (then lowest line f r) b h =
+      let n = at-most K r (λ i. b (suc i)) (lowest-le K lowest (readLine line) (b 0) h) in
+      omega (arith, n, line-counts lowest (readLine line) f)

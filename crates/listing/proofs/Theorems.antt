@@ -1,17 +1,16 @@
 -- The theorems of specs/Theorems.antt; `numbers` is in Numbers. Assumes nothing.
-use mathlib.Core.Path.{_≡_, refl, sym, ap, subst, _∙_}
-use mathlib.Core.List.{List, [], _∷_}
-use Prim.Native.Nat.{ℕ, zero, suc, _+_, _≤_, _<_}
-use native.Mathlib.Nat.{zero-add}
+use mathlib.Core.Path.{_≡_, refl, sym, ap, _∙_}
+use mathlib.Core.List.{List, []}
+use Prim.Native.Nat.{ℕ}
 use native.Mathlib.Omega.{arith}
 use lib.ListN.{length, getD}
 use Rattle.lines.specs.Lines.{lines}
 use Rattle.lines.proofs.Entries.{entry-words}
-use Rattle.listing.specs.Answers.{stored, refused}
+use Rattle.listing.specs.Answers.{stored}
 use Rattle.listing.specs.Listing.{Check, sound, faulty, wordsIn, storeLines, answerOf, memoryOf, checkOf, listingAnswer, listingMemory}
 use Rattle.listing.specs.Theorems.{RefusedExactly, RefusedUnchanged, StoredExactly, CountExactly, StoredAtMost, Rising, WordsStored, StoredTwice}
 use Rattle.listing.proofs.Decided.{accepted, refuses}
-use Rattle.listing.proofs.Faults.{from-refused, from-stored, sound-all, all-sound, first-faulty, faulty-first}
+use Rattle.listing.proofs.Faults.{from-refused, from-stored, Sound, sounds, sound-all, all-sound, first-faulty, faulty-first}
 use Rattle.listing.proofs.Counts.{places}
 use Rattle.listing.proofs.Stores.{length-lines, others, same, said, bounded, rises, at-most}
 
@@ -28,9 +27,10 @@ refused-exactly listing L number start = (
 )
 
 -- what a listing that is stored has of its check
-pub is-sound : (listing : List ℕ) (L count : ℕ) → listingAnswer listing L ≡ stored count → (checkOf listing L ≡ sound) × (count ≡ wordsIn (lines listing))
-unfolding listingAnswer
-is-sound listing L count e = from-stored (checkOf listing L) (wordsIn (lines listing)) count e
+is-sound : (listing : List ℕ) (L count : ℕ) → listingAnswer listing L ≡ stored count → Sound L 0 (lines listing) × (count ≡ wordsIn (lines listing))
+unfolding listingAnswer checkOf
+is-sound listing L count e =
+    let s = from-stored (checkOf listing L) (wordsIn (lines listing)) count e in (sounds L (lines listing) 0 0 (s .0), s .1)
 
 pub refused-unchanged : RefusedUnchanged
 refused-unchanged listing memory number start e = refuses listing memory number start e
@@ -38,7 +38,7 @@ refused-unchanged listing memory number start e = refuses listing memory number 
 pub stored-exactly : StoredExactly
 unfolding listingAnswer checkOf
 stored-exactly listing L count = (
-  λ e. let s = is-sound listing L count e in (sound-all L (lines listing) 0 0 (s .0), s .1),
+  λ e. let s = is-sound listing L count e in (sound-all L (s .0), s .1),
   λ f. ap (λ (k : Check). answerOf k (wordsIn (lines listing))) (all-sound L (lines listing) 0 0 (f .0)) ∙ ap stored (sym (f .1)),
 )
 
@@ -49,28 +49,24 @@ count-exactly listing L count e =
     rw s (p .place, p .rise, p .there, p .all)
 
 pub stored-at-most : StoredAtMost
-unfolding checkOf
 stored-at-most listing L count e =
     let s = is-sound listing L count e in
-    let ls = lines listing in
-    let m = at-most L L ls 0 0 (s .0) (λ i a w p. bounded L ls 0 0 (s .0) i a w p .0) (omega arith) in
-    let n = at-most L 65536 ls 0 0 (s .0) (λ i a w p. entry-words (getD ls i []) a w p .0) (omega arith) in
+    let m = at-most L L (s .0) (λ i a w p. bounded L (s .0) i a w p .0) (omega arith) in
+    let n = at-most L 65536 (s .0) (λ i a w p. entry-words (getD (lines listing) i []) a w p .0) (omega arith) in
     (omega (arith, m, s .1), omega (arith, n, s .1))
 
 pub rising : Rising
-unfolding checkOf
 rising listing L count e =
     let s = is-sound listing L count e in
-    (λ i a w p. bounded L (lines listing) 0 0 (s .0) i a w p .0, λ i j a b w v h p q. rises L (lines listing) 0 0 (s .0) i j a b w v h p q)
+    (λ i a w p. bounded L (s .0) i a w p .0, rises L (s .0))
 
 pub words-stored : WordsStored
-unfolding checkOf
 words-stored listing memory count e =
     let s = is-sound listing (length memory) count e in
     rw (accepted listing memory count e) (
       length-lines (lines listing) memory,
-      λ i a w p. said (length memory) (lines listing) 0 0 memory refl (s .0) i a w p,
-      λ x n. others (lines listing) memory x n,
+      said (length memory) (s .0) memory refl,
+      others (lines listing) memory,
     )
 
 -- whatever the check found
@@ -81,7 +77,7 @@ unfolding listingMemory checkOf
 twice listing memory sound e =
     let after = storeLines (lines listing) memory in
     let l = length-lines (lines listing) memory in
-    (rw (l, e) (same (lines listing) after (said (length memory) (lines listing) 0 0 memory refl e)), l)
+    (rw (l, e) (same (lines listing) after (said (length memory) (sounds (length memory) (lines listing) 0 0 e) memory refl)), l)
 twice listing memory (faulty number start) e = (rw e, refl)
 
 pub stored-twice : StoredTwice

@@ -1,12 +1,11 @@
 -- One line of a listing checked, counted and stored, with the place of the next. Assumes nothing.
-use mathlib.Core.Path.{_≡_, refl, sym, ap, _∙_}
-use mathlib.Core.Bool.{cond}
-use mathlib.Core.List.{List, [], _∷_}
-use Prim.Native.Nat.{ℕ, zero, suc, _+_, _-_, _≤_, _<_}
+use mathlib.Core.Path.{_≡_, refl, ap}
+use mathlib.Core.List.{List, _∷_}
+use Prim.Native.Nat.{ℕ, _+_, _-_, _≤_, _<_}
 use native.Mathlib.Omega.{arith}
-use borrow.Author.Tests.{eq-eqb, ne-eqb}
-use lib.Dec.{eqb, lit≤}
-use lib.ListN.{length, take, drop, set, length-set, drop-of-length-le}
+use borrow.Author.Tests.{ne-eqb}
+use lib.Dec.{lit≤}
+use lib.ListN.{length, take, drop, length-set, drop-of-length-le}
 use Rattle.lines.specs.Lines.{lines, firstLine, readLine}
 use Rattle.lines.specs.declared.Line.{Line}
 use Rattle.lines.specs.declared.Line.the-variants.{Blank, Entry, IllFormed}
@@ -14,7 +13,7 @@ use Rattle.lines.proofs.Places.{to-end}
 use Rattle.lines.proofs.Front.{front-at, first-in}
 use Rattle.listing.specs.Answers.{faultNumber}
 use Rattle.listing.specs.declared.Fault.{Fault}
-use Rattle.listing.proofs.Faults.{sound-step}
+use Rattle.listing.proofs.Faults.{Sound, then}
 use Rattle.listing.specs.Listing.{lowestAfter, faultOf, sound, faulty, firstFault, wordsOf, wordsIn, storeLine, storeLines}
 
 pub numbered : (fault : Fault) → faultNumber fault ≡ 0 → ⊥
@@ -68,14 +67,12 @@ module _ {s : List ℕ} {at : ℕ} {x : Line} {n : ℕ} (t : Turn s at x n) wher
   stored-line memory = rw (t .splits, t .says)
 
 -- a line of which nothing is wrong is not ill-formed, and nothing is wrong with those after it
-pub sound-here : (s : List ℕ) (at L lowest : ℕ) → at < length s → firstFault L lowest at (lines (drop at s)) ≡ sound
+pub sound-here : (s : List ℕ) (at L lowest : ℕ) → at < length s → Sound L lowest (lines (drop at s))
     → (readLine (firstLine (take (length s - at) (drop at s))) ≡ IllFormed → ⊥)
-    × ((next : ℕ) × (firstFault L next (at + (length (firstLine (drop at s)) + 1)) (lines (drop (at + (length (firstLine (drop at s)) + 1)) s)) ≡ sound))
-sound-here s at L lowest h e =
-    let line = firstLine (drop at s) in
-    let f : firstFault L lowest at (line ∷ lines (drop (at + (length line + 1)) s)) ≡ sound = ap (firstFault L lowest at) (sym (front-at s at h)) ∙ e in
-    let k = sound-step L line (lines (drop (at + (length line + 1)) s)) lowest at f in
-    (λ z. let g : readLine line ≡ IllFormed = rw to-end at z in omega (arith, k .0, ap (faultOf L lowest) g), (lowestAfter (readLine line) lowest, k .1))
+    × ((next : ℕ) × Sound L next (lines (drop (at + (length (firstLine (drop at s)) + 1)) s)))
+sound-here s at L lowest h e = rw to-end (by (rw (front-at s at h) at e)) where
+  by : {line : List ℕ} {rest : List (List ℕ)} → Sound L lowest (line ∷ rest) → (readLine line ≡ IllFormed → ⊥) × ((next : ℕ) × Sound L next rest)
+  by (then lowest line f r) = (λ z. omega (arith, f, ap (faultOf L lowest) z), (lowestAfter (readLine line) lowest, r))
 
 -- past the last line
 pub no-fault : (s : List ℕ) (L lowest at : ℕ) → length s ≤ at → firstFault L lowest at (lines (drop at s)) ≡ sound

@@ -2,14 +2,15 @@
 use mathlib.Core.Path.{_≡_, refl, sym, ap, subst, _∙_}
 use mathlib.Core.Bool.{Bool, cond}
 use mathlib.Core.List.{List, [], _∷_}
-use Prim.Native.Nat.{ℕ, suc, _+_, _-_, _*_, _<_, _≤_}
+use Prim.Native.Nat.{ℕ, _+_, _-_, _*_, _<_, _≤_}
 use native.Mathlib.Omega.{arith}
 use borrow.Author.Tests.{le-leb, lt-leb}
 use lib.Dec.{leb}
 use lib.ListN.{length, take, drop, getD, length-drop, drop-of-length-le}
 use lib.Seq.{drop-drop, take-all}
 use Rattle.lists.specs.Theorem.{Call}
-use Rattle.lists.specs.Replay.{readCall, callOf, Reading, listed, noCall, noStretch, following, ahead, readFrom, verdictOf, frontCall, ReadWhole}
+use Rattle.lists.specs.Replay.{readCall, callOf, Reading, listed, noCall, noStretch, following, ahead, readFrom, readCalls}
+use Rattle.lists.specs.ReplayParts.{verdictOf, frontCall, ReadWhole}
 use Rattle.lists.specs.declared.ListedCall.{ListedCall}
 use Rattle.lists.specs.declared.ReadCall.{ReadCall}
 use Rattle.lists.specs.declared.ReadCall.the-variants as readAs
@@ -81,17 +82,47 @@ verdict-starts (listed calls) room =
 verdict-starts (noCall i) room = refl
 verdict-starts (noStretch i) room = refl
 
-pub verdict-goes-on : (n : ℕ) (call : Call) (r : Reading) (room : ℕ) → verdictFrom n (following call r) room ≡ verdictFrom (n + 1) r room
+verdict-goes-on : (n : ℕ) (call : Call) (r : Reading) (room : ℕ) → verdictFrom n (following call r) room ≡ verdictFrom (n + 1) r room
 verdict-goes-on n call (listed calls) room =
     ap (λ (m : ℕ). cond (leb (23 * m) room) (Played m) NoRoom) (omega arith)
 verdict-goes-on n call (noCall i) room = refl
 verdict-goes-on n call (noStretch i) room = refl
 
 -- n calls and no more
-pub verdict-room : (n room : ℕ) → 23 * n ≤ room → verdictFrom n (listed []) room ≡ Played n
+verdict-room : (n room : ℕ) → 23 * n ≤ room → verdictFrom n (listed []) room ≡ Played n
 verdict-room n room h =
     ap (λ (m : ℕ). cond (leb (23 * m) room) (Played m) NoRoom) (omega arith) ∙ ap (λ (b : Bool). cond b (Played n) NoRoom) (le-leb _ _ h)
 
-pub verdict-no-room : (n room : ℕ) → room < 23 * n → verdictFrom n (listed []) room ≡ NoRoom
+verdict-no-room : (n room : ℕ) → room < 23 * n → verdictFrom n (listed []) room ≡ NoRoom
 verdict-no-room n room h =
     ap (λ (m : ℕ). cond (leb (23 * m) room) (Played m) NoRoom) (omega arith) ∙ ap (λ (b : Bool). cond b (Played n) NoRoom) (lt-leb _ _ h)
+
+-- a check under way: the verdict on what is left, with the i calls passed, is that on the whole list
+pub record Passed (text calls : List ℕ) (room at i : ℕ) : Type 0 where
+  pub within : at ≤ length calls
+  pub few : i ≤ at
+  pub same : verdictOf (readCalls text calls) room ≡ verdictFrom i (readFrom text i (drop at calls)) room
+
+module _ {text calls : List ℕ} {room at i : ℕ} (p : Passed text calls room at i) where
+  pub finds : (r : ReadCall) → at < length calls → r ≡ frontCall (take (length calls - at) (drop at calls)) (length text)
+      → verdictOf (readCalls text calls) room ≡ verdictFrom i (ahead text i r (readFrom text (i + 1) (drop (at + 3) calls))) room
+  finds r h e = p .same ∙ ap (λ (x : Reading). verdictFrom i x room) (reads-at text i calls at r h e)
+
+  -- one call more
+  pub passes : (call : ListedCall) → at < length calls → at + 3 ≤ length calls
+      → readAs.Read call ≡ frontCall (take (length calls - at) (drop at calls)) (length text) → Passed text calls room (at + 3) (i + 1)
+  passes call h whole e = record {
+    within = whole;
+    few = omega (arith, p .few);
+    same = finds (readAs.Read call) h e ∙ verdict-goes-on i (callOf text call) (readFrom text (i + 1) (drop (at + 3) calls)) room;
+  }
+
+  -- no call left
+  ended : length calls ≤ at → verdictOf (readCalls text calls) room ≡ verdictFrom i (listed []) room
+  ended h = p .same ∙ ap (λ (x : Reading). verdictFrom i x room) (none-left text i calls at h)
+
+  pub ends-with-room : length calls ≤ at → 23 * i ≤ room → verdictOf (readCalls text calls) room ≡ Played i
+  ends-with-room h fits = ended h ∙ verdict-room i room fits
+
+  pub ends-without : length calls ≤ at → room < 23 * i → verdictOf (readCalls text calls) room ≡ NoRoom
+  ends-without h short = ended h ∙ verdict-no-room i room short

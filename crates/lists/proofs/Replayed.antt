@@ -8,9 +8,11 @@ use borrow.Author.Tests.{leb-true, le-leb}
 use lib.Dec.{leb}
 use lib.ListN.{length}
 use Rattle.core.specs.Cores.{freshCore}
-use Rattle.layout.proofs.Written.{fitting}
+use Rattle.layout.specs.Layout.{onto}
+use Rattle.layout.proofs.Onto.{fitting}
 use Rattle.lists.specs.Theorem.{playCore}
-use Rattle.lists.specs.Replay.{Reading, listed, noCall, noStretch, numbersOf, over, machineReplay, replayed, replayGave, verdictOf, Playable, corePlayed}
+use Rattle.lists.specs.Replay.{Reading, listed, noCall, noStretch, numbersOf, machineReplay, replayed, replayGave}
+use Rattle.lists.specs.ReplayParts.{verdictOf, Playable, afterPlay, corePlayed}
 use Rattle.lists.specs.declared.ReplayAnswer.{ReplayAnswer}
 use Rattle.lists.specs.declared.ReplayAnswer.the-variants.{Played, NoCall, NoStretch, NoRoom}
 use Rattle.lists.proofs.Plays.{numbers-length}
@@ -30,10 +32,10 @@ playable-when (noCall i) room n e = let z : _≡_ {A = ℕ} 0 1 = cc in absurd (
 playable-when (noStretch i) room n e = let z : _≡_ {A = ℕ} 0 1 = cc in absurd (omega arith)
 
 -- what a list that can be played gives, by the core's play
-pub as-played : (r : Reading) (memory answers : List ℕ) → Playable r (length answers)
+by-core : (r : Reading) (memory answers : List ℕ) → Playable r (length answers)
     → replayed r memory answers
     ≡ replayGave (verdictOf r (length answers)) (corePlayed r memory answers .memory) (corePlayed r memory answers .answers)
-as-played (listed calls) memory answers h =
+by-core (listed calls) memory answers h =
     let agree = every-list memory calls in
     let room = sym (le-leb _ _ h) in
     let left = sym (agree .memory) in
@@ -41,11 +43,11 @@ as-played (listed calls) memory answers h =
     let core = playCore calls freshCore memory .answers in
     let size : length (numbersOf core) ≡ 23 * length calls = numbers-length calls freshCore memory in
     ap (λ (b : Bool). cond b (machineReplay calls memory answers) (replayGave NoRoom memory answers)) (le-leb _ _ h)
-    ∙ (λ j. replayGave (cond (room j) (Played (length calls)) NoRoom) (left j) (over (numbersOf (said j)) answers))
+    ∙ (λ j. replayGave (cond (room j) (Played (length calls)) NoRoom) (left j) (onto (numbersOf (said j)) answers))
     ∙ ap (replayGave (verdictOf (listed calls) (length answers)) (playCore calls freshCore memory .memory))
     (sym (fitting (numbersOf core) answers (omega arith)))
-as-played (noCall i) memory answers h = absurd h
-as-played (noStretch i) memory answers h = absurd h
+by-core (noCall i) memory answers h = absurd h
+by-core (noStretch i) memory answers h = absurd h
 
 -- and one that is refused
 abbrev pub NotPlayed : ReplayAnswer → Type 0
@@ -54,9 +56,9 @@ NotPlayed (NoCall i) = Unit
 NotPlayed (NoStretch i) = Unit
 NotPlayed NoRoom = Unit
 
-pub as-refused : (r : Reading) (memory answers : List ℕ) → NotPlayed (verdictOf r (length answers))
+unchanged : (r : Reading) (memory answers : List ℕ) → NotPlayed (verdictOf r (length answers))
     → replayed r memory answers ≡ replayGave (verdictOf r (length answers)) memory answers
-as-refused (listed calls) memory answers h = by (leb (23 * length calls) (length answers)) refl
+unchanged (listed calls) memory answers h = by (leb (23 * length calls) (length answers)) refl
   where
     by : (b : Bool) → leb (23 * length calls) (length answers) ≡ b
         → replayed (listed calls) memory answers ≡ replayGave (verdictOf (listed calls) (length answers)) memory answers
@@ -64,5 +66,17 @@ as-refused (listed calls) memory answers h = by (leb (23 * length calls) (length
     by false t =
         ap (λ (b : Bool). cond b (machineReplay calls memory answers) (replayGave NoRoom memory answers)) t
         ∙ ap (λ (b : Bool). replayGave (cond b (Played (length calls)) NoRoom) memory answers) (sym t)
-as-refused (noCall i) memory answers h = refl
-as-refused (noStretch i) memory answers h = refl
+unchanged (noCall i) memory answers h = refl
+unchanged (noStretch i) memory answers h = refl
+
+-- what a replay gives back that found this verdict
+module _ (r : Reading) (memory answers : List ℕ) (found : ReplayAnswer) (e : found ≡ verdictOf r (length answers)) where
+  pub as-played : (n : ℕ) (memory′ answers′ : List ℕ) → found ≡ Played n → corePlayed r memory answers ≡ afterPlay memory′ answers′
+      → replayGave found memory′ answers′ ≡ replayed r memory answers
+  as-played n memory′ answers′ p left =
+      (λ j. replayGave (e j) (sym left j .memory) (sym left j .answers))
+      ∙ sym (by-core r memory answers (playable-when r (length answers) n (sym e ∙ p)))
+
+  pub as-refused : NotPlayed found → replayGave found memory answers ≡ replayed r memory answers
+  as-refused n =
+      ap (λ (x : ReplayAnswer). replayGave x memory answers) e ∙ sym (unchanged r memory answers (subst NotPlayed e n))

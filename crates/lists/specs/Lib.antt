@@ -2,3 +2,4 @@
 pub mod Machine
 pub mod Theorem
 pub mod Replay
+pub mod ReplayParts

@@ -2,14 +2,13 @@
 -- `replayed`, which plays the list on the instruction machine.
 use mathlib.Core.Bool.{cond}
 use mathlib.Core.List.{List, [], _∷_, _++_}
-use Prim.Native.Nat.{ℕ, _+_, _-_, _*_, _≤_}
+use Prim.Native.Nat.{ℕ, _+_, _-_, _*_}
 use lib.Dec.{eqb, leb}
 use lib.ListN.{length, take, drop}
-use Rattle.core.specs.Cores.{freshCore}
 use Rattle.core.specs.Calls as core
-use Rattle.layout.specs.Layout.{answerSize, answerNumbers, written}
+use Rattle.layout.specs.Layout.{answerSize, answerNumbers, onto}
 use Rattle.lists.specs.Machine.{freshMachine}
-use Rattle.lists.specs.Theorem.{Call, reset, load, run, step, view, MachinePlay, playMachine, playCore}
+use Rattle.lists.specs.Theorem.{Call, reset, load, run, step, view, MachinePlay, playMachine}
 use Rattle.lists.specs.declared.ListedCall.{ListedCall}
 use Rattle.lists.specs.declared.ListedCall.the-variants as listedCall
 use Rattle.lists.specs.declared.ReadCall.{ReadCall}
@@ -81,10 +80,6 @@ pub record Replayed : Type 0 where
 abbrev pub replayGave : ReplayAnswer → List ℕ → List ℕ → Replayed
 replayGave answer memory answers = record { answer = answer; memory = memory; answers = answers }
 
--- numbers over the front of a list; what is past them stays
-abbrev pub over : List ℕ → List ℕ → List ℕ
-over numbers old = numbers ++ drop (length numbers) old
-
 -- the calls played on the instruction machine, which starts fresh on the memory: the memory is the machine's, and its answers are written
 -- from the first place on
 abbrev pub machinePlay : List Call → List ℕ → MachinePlay
@@ -93,7 +88,7 @@ machinePlay calls memory = playMachine calls (freshMachine memory) []
 abbrev pub machineReplay : List Call → List ℕ → List ℕ → Replayed
 machineReplay calls memory answers =
     replayGave (Played (length calls)) (machinePlay calls memory .machine .memory)
-    (over (numbersOf (machinePlay calls memory .answers)) answers)
+    (onto (numbersOf (machinePlay calls memory .answers)) answers)
 
 -- a list that is read, and whose answers fit, is played; any other changes nothing
 abbrev pub replayed : Reading → List ℕ → List ℕ → Replayed
@@ -101,58 +96,3 @@ replayed (listed calls) memory answers =
     cond (leb (answerSize * length calls) (length answers)) (machineReplay calls memory answers) (replayGave NoRoom memory answers)
 replayed (noCall i) memory answers = replayGave (NoCall i) memory answers
 replayed (noStretch i) memory answers = replayGave (NoStretch i) memory answers
-
--- For the functions under `replay`. What is found before anything is played:
-abbrev pub verdictOf : Reading → ℕ → ReplayAnswer
-verdictOf (listed calls) room = cond (leb (answerSize * length calls) room) (Played (length calls)) NoRoom
-verdictOf (noCall i) room = NoCall i
-verdictOf (noStretch i) room = NoStretch i
-
--- a stretch that is read lies in the text
-abbrev pub FitsIn : ℕ → ListedCall → Type 0
-FitsIn size listedCall.Reset = Unit
-FitsIn size (listedCall.Load from to) = (from ≤ to) × (to ≤ size)
-FitsIn size (listedCall.Run b) = Unit
-FitsIn size listedCall.Step = Unit
-FitsIn size listedCall.View = Unit
-
-abbrev pub ReadFits : ℕ → ReadCall → Type 0
-ReadFits size (readAs.Read call) = FitsIn size call
-ReadFits size readAs.NoCall = Unit
-ReadFits size readAs.NoStretch = Unit
-
--- the call at the front of some numbers
-abbrev pub frontCall : List ℕ → ℕ → ReadCall
-frontCall [] size = readAs.NoCall
-frontCall (a ∷ []) size = readAs.NoCall
-frontCall (a ∷ b ∷ []) size = readAs.NoCall
-frontCall (a ∷ b ∷ c ∷ rest) size = readCall a b c size
-
--- a call that is read has its three numbers
-abbrev pub ReadWhole : ℕ → ReadCall → Type 0
-ReadWhole size (readAs.Read call) = 3 ≤ size
-ReadWhole size readAs.NoCall = Unit
-ReadWhole size readAs.NoStretch = Unit
-
--- a list that can be played, with room for so many numbers of answers
-abbrev pub Playable : Reading → ℕ → Type 0
-Playable (listed calls) room = answerSize * length calls ≤ room
-Playable (noCall i) room = ⊥
-Playable (noStretch i) room = ⊥
-
--- memory and answers of a list played on a core
-pub record Lent : Type 0 where
-  pub memory : List ℕ
-  pub answers : List ℕ
-
-abbrev pub playedAs : List ℕ → List ℕ → Lent
-playedAs memory answers = record { memory = memory; answers = answers }
-
-abbrev pub corePlayed : Reading → List ℕ → List ℕ → Lent
-corePlayed (listed calls) memory answers =
-    record {
-      memory = playCore calls freshCore memory .memory;
-      answers = written (numbersOf (playCore calls freshCore memory .answers)) answers;
-    }
-corePlayed (noCall i) memory answers = record { memory = memory; answers = answers }
-corePlayed (noStretch i) memory answers = record { memory = memory; answers = answers }

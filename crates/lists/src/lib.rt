@@ -4,9 +4,10 @@ ghost use mathlib.Core.Path.{_≡_};
 ghost use mathlib.Core.List.{_++_};
 ghost use Prim.Native.Nat.{ℕ, _≤_};
 ghost use lib.ListN.{length, take, drop};
-ghost use Rattle.layout.specs.Layout.{written, numbered, gave};
+ghost use Rattle.layout.specs.Layout.{ontoIfRoom, numbered, gave};
 ghost use Rattle.lists.specs.Theorem.{Call, onCore, playCore};
-ghost use Rattle.lists.specs.Replay.{readStretch, readBudget, readCall, frontCall, callOf, readCalls, verdictOf, FitsIn, ReadFits, ReadWhole, Playable, corePlayed, playedAs, replayed, replayGave};
+ghost use Rattle.lists.specs.Replay.{readStretch, readBudget, readCall, callOf, readCalls, replayed, replayGave};
+ghost use Rattle.lists.specs.ReplayParts.{frontCall, verdictOf, FitsIn, ReadFits, ReadWhole, Playable, corePlayed, afterPlay};
 use core::Core;
 use layout::Numbered;
 
@@ -134,7 +135,7 @@ fn play(core: Core, call: ListedCall, text: &[u8], memory: &mut [u16]) -> Number
 // Writes an answer's numbers from a place on.
 fn put_at(answers: &mut [u64], to: usize, numbers: [u64; 23])
     requires { ⌜ to ≤ length (now answers) ⌝ }
-    ensures { λ _. ⌜ now (answers .exit) ≡ take to (now (answers .entry)) ++ written numbers (drop to (now (answers .entry))) ⌝ }
+    ensures { λ _. ⌜ now (answers .exit) ≡ take to (now (answers .entry)) ++ ontoIfRoom numbers (drop to (now (answers .entry))) ⌝ }
 {
     layout::put(&mut answers[to..], numbers);
 }
@@ -142,7 +143,7 @@ fn put_at(answers: &mut [u64], to: usize, numbers: [u64; 23])
 // Plays a list that `check` has found playable: the two returns are never reached.
 fn play_all(calls: &[u64], text: &[u8], memory: &mut [u16], answers: &mut [u64])
     requires { ⌜ Playable (readCalls (now text) (now calls)) (length (now answers)) ⌝ }
-    ensures { λ _. ⌜ corePlayed (readCalls (now (text .entry)) (now (calls .entry))) (now (memory .entry)) (now (answers .entry)) ≡ playedAs (now (memory .exit)) (now (answers .exit)) ⌝ }
+    ensures { λ _. ⌜ corePlayed (readCalls (now (text .entry)) (now (calls .entry))) (now (memory .entry)) (now (answers .entry)) ≡ afterPlay (now (memory .exit)) (now (answers .exit)) ⌝ }
 {
     let mut core = core::fresh();
     let mut at = 0;

@@ -11,7 +11,7 @@ use Rattle.core.specs.Calls.{Reply}
 use Rattle.core.specs.declared.Core.{Core}
 use Rattle.layout.specs.Layout.{answerSize}
 use Rattle.r8.specs.Numbers.{coreOf, isCore}
-use Rattle.r8.specs.Call.{Lent, codeOf, after, made, returned, called}
+use Rattle.r8.specs.Call.{Slices, codeOf, after, made, returned, called}
 use Rattle.r8.proofs.Numbers.{Fits, fits}
 
 none : (core short : Bool) → _≡_ {A = ℕ} (cond core (cond short 2 0) 1) 0 → (core ≡ true) × (short ≡ false)
@@ -31,7 +31,7 @@ taken registers state answer code e z =
     let both = accepted registers state answer code e z in
     (fits registers state (both .0), ltb-false _ _ (both .1))
 
-module _ (call : Core → List ℕ → Reply) (x : Lent) (code : ℕ) (e : code ≡ codeOf (x .registers) (x .state) (x .answer)) where
+module _ (call : Core → List ℕ → Reply) (x : Slices) (code : ℕ) (e : code ≡ codeOf (x .registers) (x .state) (x .answer)) where
   pub refused : (code ≡ 0 → ⊥) → (code, x) ≡ called call x
   unfolding called
   refused h = rw (← e, ne-eqb code 0 h)

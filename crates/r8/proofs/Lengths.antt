@@ -5,20 +5,17 @@ use Prim.Native.Nat.{ℕ, _+_, _≤_}
 use native.Mathlib.Omega.{arith}
 use lib.ListN.{length, drop, length-append, length-drop, drop-of-length-le}
 use lib.Seq.{sets, sets-eq, take-at}
-use Rattle.r8.specs.Slices.{onto}
+use Rattle.layout.specs.Layout.{onto}
 
 pub length-onto : (front slice : List ℕ) → length front ≤ length slice → length (onto front slice) ≡ length slice
-unfolding onto
 length-onto front slice h = length-append front _ ∙ omega (arith, length-drop (length front) slice)
 
 -- nothing of the slice is left where all of it is written
 pub whole : (front slice : List ℕ) → length front ≡ length slice → onto front slice ≡ front
-unfolding onto
 whole front slice e = ap (λ (x : List ℕ). front ++ x) (drop-of-length-le slice {i = length front} (omega arith)) ∙ append-nil front
 
 pub filled : (front rest slice : List ℕ) (n : ℕ) → length front ≡ n → n + length rest ≡ length slice
     → sets (onto front slice) n rest ≡ front ++ rest
-unfolding onto
 filled front rest slice n e h =
     let size : length (onto front slice) ≡ length slice = length-onto front slice (omega arith) in
     sets-eq rest (onto front slice) n (omega arith)

@@ -1,5 +1,4 @@
 -- Laws that the proofs of `r8` share, and the theorems.
-mod Copying
 mod Lengths
 mod Numbers
 mod Calls

@@ -4,21 +4,21 @@ use mathlib.Core.List.{List}
 use Prim.Native.Nat.{ℕ}
 use lib.Dec.{eqb, ltb}
 use lib.ListN.{length}
-use Rattle.core.specs.Calls.{Reply}
+use Rattle.core.specs.Calls.{Reply, run, step}
 use Rattle.core.specs.declared.Core.{Core}
-use Rattle.layout.specs.Layout.{answerSize, answerNumbers}
-use Rattle.r8.specs.Slices.{onto}
+use Rattle.layout.specs.Layout.{answerSize, answerNumbers, onto}
+use Rattle.r8.specs.declared.call.Asked.{Asked}
 use Rattle.r8.specs.Numbers.{registersOf, stateOf, coreOf, isCore}
 
 -- the slices that a caller lends
-pub record Lent : Type 0 where
+pub record Slices : Type 0 where
   pub registers : List ℕ
   pub state : List ℕ
   pub memory : List ℕ
   pub answer : List ℕ
 
-abbrev pub lent : List ℕ → List ℕ → List ℕ → List ℕ → Lent
-lent registers state memory answer =
+abbrev pub slices : List ℕ → List ℕ → List ℕ → List ℕ → Slices
+slices registers state memory answer =
     record { registers = registers; state = state; memory = memory; answer = answer }
 
 -- 1: the numbers are no core's; 2: the answer is too short; 0: the call is made
@@ -27,16 +27,21 @@ codeOf registers state answer =
     cond (isCore registers state) (cond (ltb (length answer) answerSize) 2 0) 1
 
 -- the next core, the memory and the answer
-abbrev pub after : Reply → List ℕ → Lent
+abbrev pub after : Reply → List ℕ → Slices
 after reply answer =
-    lent (registersOf (reply .core)) (stateOf (reply .core)) (reply .memory) (onto (answerNumbers (reply .answer)) answer)
+    slices (registersOf (reply .core)) (stateOf (reply .core)) (reply .memory) (onto (answerNumbers (reply .answer)) answer)
 
-abbrev pub made : (Core → List ℕ → Reply) → Lent → Lent
+abbrev pub made : (Core → List ℕ → Reply) → Slices → Slices
 made call x = after (call (coreOf (x .registers) (x .state)) (x .memory)) (x .answer)
 
 -- what is returned, and what is then in the slices: with a code other than 0, what was there
-abbrev pub returned : ℕ → Lent → Lent → ℕ × Lent
+abbrev pub returned : ℕ → Slices → Slices → ℕ × Slices
 returned code x next = (code, cond (eqb code 0) next x)
 
-unfoldable pub called : (Core → List ℕ → Reply) → Lent → ℕ × Lent
+unfoldable pub called : (Core → List ℕ → Reply) → Slices → ℕ × Slices
 called call x = returned (codeOf (x .registers) (x .state) (x .answer)) x (made call x)
+
+-- what the two functions ask of a core
+abbrev pub onCore : Asked → Core → List ℕ → Reply
+onCore (Asked.Run b) = run b
+onCore Asked.Step = step

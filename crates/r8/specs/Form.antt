@@ -10,7 +10,7 @@ use Rattle.forms.specs.Reading.{wordToForm}
 use Rattle.forms.specs.Writing.{partsOf}
 use Rattle.forms.specs.declared.Form.{Form}
 use Rattle.forms.specs.declared.Parts.{Parts}
-use Rattle.r8.specs.Slices.{onto}
+use Rattle.layout.specs.Layout.{onto}
 
 abbrev pub formSize : ℕ
 formSize = 7

@@ -1,5 +1,4 @@
 -- What the calls for other languages return, and what they leave in the slices that they are lent.
-pub mod Slices
 pub mod Form
 pub mod Numbers
 pub mod Call

@@ -11,7 +11,7 @@ use Rattle.refusals.specs.Theorems.{Taken}
 use Rattle.core.specs.TheoremsOfCalls.{runNumbers}
 use Rattle.core.specs.declared.Core.{Core}
 use Rattle.r8.specs.Numbers.{registersOf, stateOf, coreOf, isCore}
-use Rattle.r8.specs.Call.{Lent, codeOf, after, called}
+use Rattle.r8.specs.Call.{Slices, codeOf, after, called}
 
 -- a core as the code holds it: sixteen registers, a cycle due of a byte
 abbrev pub Held : Core → Type 0
@@ -39,9 +39,9 @@ HeldOn =
 -- memory (proved as `call-after-call`)
 abbrev pub CallAfterCall : Type 0
 CallAfterCall =
-    (first second : Core → List ℕ → Reply) (x : Lent) → codeOf (x .registers) (x .state) (x .answer) ≡ 0
+    (first second : Core → List ℕ → Reply) (x : Slices) → codeOf (x .registers) (x .state) (x .answer) ≡ 0
     → let reply : Reply = first (coreOf (x .registers) (x .state)) (x .memory) in
-    let left : Lent = called first x .1 in
+    let left : Slices = called first x .1 in
     Held (reply .core)
     → called second left ≡ (0, after (second (reply .core) (reply .memory)) (left .answer))
 
@@ -49,10 +49,10 @@ CallAfterCall =
 -- `run-in-pieces`)
 abbrev pub RunInPieces : Type 0
 RunInPieces =
-    (x : Lent) (i j : ℕ) → codeOf (x .registers) (x .state) (x .answer) ≡ 0
+    (x : Slices) (i j : ℕ) → codeOf (x .registers) (x .state) (x .answer) ≡ 0
     → let core : Core = coreOf (x .registers) (x .state) in
-    let pieces : Lent = called (run j) (called (run i) x .1) .1 in
-    let whole : Lent = called (run (i + j)) x .1 in
+    let pieces : Slices = called (run j) (called (run i) x .1) .1 in
+    let whole : Slices = called (run (i + j)) x .1 in
     Taken (runNumbers (i + j) core (x .memory))
     → run i core (x .memory) .core .stop ≡ Going
     → (pieces .registers ≡ whole .registers) × (pieces .state ≡ whole .state) × (pieces .memory ≡ whole .memory)

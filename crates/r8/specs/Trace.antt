@@ -4,7 +4,7 @@ use mathlib.Core.List.{List}
 use Prim.Native.Nat.{ℕ}
 use lib.Dec.{ltb}
 use lib.ListN.{length}
-use Rattle.layout.specs.Layout.{answerSize, answerNumbers, written}
+use Rattle.layout.specs.Layout.{answerSize, answerNumbers, ontoIfRoom}
 use Rattle.trace.specs.Trace.{Finding, answered, tooLong, noRoom, Trace, traced}
 
 pub record TraceReturned : Type 0 where
@@ -17,7 +17,7 @@ lentTrace code rows answer = record { code = code; rows = rows; answer = answer 
 
 -- 0: the run's answer, or the refused load's; 1: the listing is too long; 2: the rows are too short
 abbrev pub foundReturned : Finding → List ℕ → ℕ × List ℕ
-foundReturned (answered a) answer = (0, written (answerNumbers a) answer)
+foundReturned (answered a) answer = (0, ontoIfRoom (answerNumbers a) answer)
 foundReturned tooLong answer = (1, answer)
 foundReturned noRoom answer = (2, answer)
 

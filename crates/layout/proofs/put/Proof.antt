@@ -2,10 +2,9 @@
 use mathlib.Core.Path.{_≡_, sym, ap, _∙_}
 use mathlib.Core.List.{List, _++_}
 use Prim.Native.Nat.{ℕ, _≤_, _-_}
-use native.Mathlib.Omega.{arith}
 use borrow.Author.Needs.{needs}
 use lib.ListN.{length, take, drop, getD, set, length-set}
-use Rattle.layout.proofs.Written.{too-long, one-more, all-written}
+use Rattle.layout.proofs.Onto.{fitting, too-long, one-more, all-written}
 use Rattle.layout.proofs.put.Statement.{statement}
 use Rattle.layout.proofs.put.Tie as tie
 
@@ -31,7 +30,9 @@ returns-2 : tie.Need-returns-2 Inv-loop μ-loop
 returns-2 c =
     let l = c .before .loop in
     let a = c .before .before .before .args in
-    l .inv .2 ∙ all-written (a .t2) (a .answers .now) (l .i) (search needs) (search needs)
+    l .inv .2
+    ∙ all-written (a .t2) (a .answers .now) (l .i) (search needs)
+    ∙ sym (fitting (a .t2) (a .answers .now) (search needs))
 
 pub put-spec : {M : Type 1} → statement M
 put-spec =

@@ -44,25 +44,7 @@ add-count c =
     let r = c .before .before .before .before .before in
     omega (arith, c .words-of .ensures, words-le (r .read-line-by .result .line), r .before .before .before .loop .inv .3)
 
-add-at : tie.Need-add-at Inv-loop μ-loop
-add-at c =
-    let r = c .before .before .before .before .before .before in
-    let l = r .before .before .before in
-    let s = l .before .before .args in
-    let t = turn (s .listing .now) (l .loop .at) (r .before .before .loop-test .taken) (r .read-line-by .ensures (l .before .before .pre)) in
-    omega (arith, t .within)
-
-add-at-2 : tie.Need-add-at-2 Inv-loop μ-loop
-add-at-2 c =
-    let r = c .before .before .before .before .before .before in
-    let l = r .before .before .before in
-    let s = l .before .before .args in
-    let t = turn (s .listing .now) (l .loop .at) (r .before .before .loop-test .taken) (r .read-line-by .ensures (l .before .before .pre)) in
-    omega (arith, t .within)
-
-loop-less : tie.Need-loop-less Inv-loop μ-loop
-loop-less c = omega arith
-
+-- one line more; that the next place is in the listing or just past it also says that the sums fit
 loop-again : tie.Need-loop-again Inv-loop μ-loop
 loop-again c =
     let r = c .before .before .before .before .before .before in
@@ -99,8 +81,6 @@ check-spec =
     returns
     (λ c. search needs) (λ c κs. search needs) (λ c κs. search needs)
     add-count
-    add-at
-    add-at-2
-    loop-less
+    (λ c. omega (arith, loop-again c .2)) (λ c. omega (arith, loop-again c .2)) (λ c. omega arith)
     loop-again
     returns-2)

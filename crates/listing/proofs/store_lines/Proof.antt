@@ -5,7 +5,8 @@ use native.Mathlib.Omega.{arith}
 use borrow.Author.Needs.{needs}
 use lib.ListN.{length, drop}
 use Rattle.lines.specs.Lines.{lines}
-use Rattle.listing.specs.Listing.{sound, firstFault, checkOf, storeLines}
+use Rattle.listing.specs.Listing.{checkOf, storeLines}
+use Rattle.listing.proofs.Faults.{Sound, sounds}
 use Rattle.listing.proofs.Turns.{turn, sound-here, stored-line, no-store, length-line}
 use Rattle.listing.proofs.store_lines.Statement.{statement}
 use Rattle.listing.proofs.store_lines.Tie as tie
@@ -15,40 +16,16 @@ Inv-loop table listing memory₀ at₀ memory at =
     (storeLines (lines listing) memory₀ ≡ storeLines (lines (drop at listing)) memory)
     × (length memory ≡ length memory₀)
     × (at ≤ length listing + 1)
-    × ((lowest : ℕ) × (firstFault (length memory₀) lowest at (lines (drop at listing)) ≡ sound))
+    × ((lowest : ℕ) × Sound (length memory₀) lowest (lines (drop at listing)))
 
 abbrev μ-loop : tie.MeasureT-loop
 μ-loop table listing memory₀ at₀ memory at = length listing + 1 - at
 
 loop-holds : tie.Need-loop-holds Inv-loop μ-loop
 unfolding checkOf
-loop-holds c = (refl, refl, omega arith, (0, c .before .before .pre .1))
+loop-holds c = (refl, refl, omega arith, (0, sounds _ _ 0 0 (c .before .before .pre .1)))
 
-add-at : tie.Need-add-at Inv-loop μ-loop
-add-at c =
-    let r = c .before .before .before .before .before in
-    let l = r .before .before .before in
-    let a = l .before .before .before in
-    let w = l .loop .inv .3 in
-    let k = sound-here (a .args .listing .now) (l .loop .at) (length (a .args .memory .now)) (w .0) (r .before .before .loop-test .taken) (w .1) in
-    let e = r .read-sound-line-by .ensures in
-    let t = turn (a .args .listing .now) (l .loop .at) (r .before .before .loop-test .taken) (e .0 (a .pre .0) (k .0), e .1 (a .pre .0)) in
-    omega (arith, t .within)
-
-add-at-2 : tie.Need-add-at-2 Inv-loop μ-loop
-add-at-2 c =
-    let r = c .before .before .before .before .before in
-    let l = r .before .before .before in
-    let a = l .before .before .before in
-    let w = l .loop .inv .3 in
-    let k = sound-here (a .args .listing .now) (l .loop .at) (length (a .args .memory .now)) (w .0) (r .before .before .loop-test .taken) (w .1) in
-    let e = r .read-sound-line-by .ensures in
-    let t = turn (a .args .listing .now) (l .loop .at) (r .before .before .loop-test .taken) (e .0 (a .pre .0) (k .0), e .1 (a .pre .0)) in
-    omega (arith, t .within)
-
-loop-less : tie.Need-loop-less Inv-loop μ-loop
-loop-less c = omega arith
-
+-- one line more; that the next place is in the listing or just past it also says that the sums fit
 loop-again : tie.Need-loop-again Inv-loop μ-loop
 loop-again c =
     let r = c .before .before .before .before .before in
@@ -77,9 +54,7 @@ store-lines-spec =
     μ-loop
     loop-holds
     (λ c. search needs) (λ c. search needs) (λ c. search needs) (λ c κs. search needs) (λ c κs. search needs)
-    add-at
-    add-at-2
-    loop-less
+    (λ c. omega (arith, loop-again c .2)) (λ c. omega (arith, loop-again c .2)) (λ c. omega arith)
     loop-again
     same-length
     returns)

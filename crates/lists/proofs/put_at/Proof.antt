@@ -1,5 +1,5 @@
 -- `lists::put_at` meets its contract: the part is handed back behind what stands before it. Assumes nothing.
-use Rattle.layout.proofs.Written.{into-part}
+use Rattle.layout.proofs.Onto.{into-part}
 use borrow.Author.Needs.{needs}
 use Rattle.lists.proofs.put_at.Statement.{statement}
 use Rattle.lists.proofs.put_at.Tie as tie

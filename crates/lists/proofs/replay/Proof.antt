@@ -1,9 +1,8 @@
 -- `lists::replay` meets its contract: by its verdict; what is played is the machine's by the theorem `EveryList`. Assumes nothing.
-use mathlib.Core.Path.{sym, ap, subst, _∙_}
+use mathlib.Core.Path.{sym, _∙_}
 use lib.ListN.{length}
-use Rattle.lists.specs.Replay.{readCalls, replayGave}
-use Rattle.lists.specs.declared.ReplayAnswer.{ReplayAnswer}
-use Rattle.lists.proofs.Replayed.{playable-when, as-played, NotPlayed, as-refused}
+use Rattle.lists.specs.Replay.{readCalls}
+use Rattle.lists.proofs.Replayed.{playable-when, as-played, as-refused}
 use borrow.Author.Needs.{needs}
 use Rattle.lists.proofs.replay.Statement.{statement}
 use Rattle.lists.proofs.replay.Tie as tie
@@ -16,37 +15,26 @@ play-all-requires c κs =
 
 returns : tie.Need-returns
 returns c =
-    let a = c .before .before .before .before .before .before .before .before .before .before .before .before .before .before .args in
-    let read = readCalls (a .text .now) (a .calls .now) in
-    let found = c .before .before .before .before .before .before .before .before .before .check .ensures in
-    let told = c .before .before .before .before .before .before .before .enum-told .given in
-    let played = sym (c .before .before .before .before .play-all .ensures) in
-    (λ j. replayGave (found j) (played j .memory) (played j .answers))
-    ∙ sym (as-played read (a .memory .now) (a .answers .now) (playable-when read (length (a .answers .now)) (told .0 .0) (sym found ∙ told .1)))
+    let found = c .before .before .before .before .before .before .before .before .before in
+    let a = found .before .before .before .before .before .args in
+    as-played (readCalls (a .text .now) (a .calls .now)) (a .memory .now) (a .answers .now) _ (found .check .ensures) _ _ _
+    (c .before .before .before .before .before .before .before .enum-told .given .1)
+    (c .before .before .before .before .play-all .ensures)
 
 returns-2 : tie.Need-returns-2
 returns-2 c =
     let a = c .before .before .before .before .before .before .before .args in
-    let read = readCalls (a .text .now) (a .calls .now) in
-    let found = c .before .before .check .ensures in
-    ap (λ (x : ReplayAnswer). replayGave x (a .memory .now) (a .answers .now)) found
-    ∙ sym (as-refused read (a .memory .now) (a .answers .now) (subst NotPlayed (sym (c .enum-told2 .given .1) ∙ found) tt))
+    as-refused (readCalls (a .text .now) (a .calls .now)) (a .memory .now) (a .answers .now) _ (c .before .before .check .ensures) (rw (c .enum-told2 .given .1) tt)
 
 returns-3 : tie.Need-returns-3
 returns-3 c =
     let a = c .before .before .before .before .before .before .before .args in
-    let read = readCalls (a .text .now) (a .calls .now) in
-    let found = c .before .before .check .ensures in
-    ap (λ (x : ReplayAnswer). replayGave x (a .memory .now) (a .answers .now)) found
-    ∙ sym (as-refused read (a .memory .now) (a .answers .now) (subst NotPlayed (sym (c .enum-told3 .given .1) ∙ found) tt))
+    as-refused (readCalls (a .text .now) (a .calls .now)) (a .memory .now) (a .answers .now) _ (c .before .before .check .ensures) (rw (c .enum-told3 .given .1) tt)
 
 returns-4 : tie.Need-returns-4
 returns-4 c =
     let a = c .before .before .before .before .before .before .before .args in
-    let read = readCalls (a .text .now) (a .calls .now) in
-    let found = c .before .before .check .ensures in
-    ap (λ (x : ReplayAnswer). replayGave x (a .memory .now) (a .answers .now)) found
-    ∙ sym (as-refused read (a .memory .now) (a .answers .now) (subst NotPlayed (sym (c .enum-told4 .given .1) ∙ found) tt))
+    as-refused (readCalls (a .text .now) (a .calls .now)) (a .memory .now) (a .answers .now) _ (c .before .before .check .ensures) (rw (c .enum-told4 .given .1) tt)
 
 pub replay-spec : {M : Type 1} → statement M
 replay-spec =

@@ -4,7 +4,6 @@ use mathlib.Core.List.{[], _∷_}
 use native.Mathlib.Omega.{arith}
 use lib.Seq.{sets}
 use borrow.Author.Needs.{needs}
-use Rattle.r8.specs.Slices.{onto}
 use Rattle.r8.proofs.Lengths.{filled}
 use Rattle.r8.proofs.Numbers.{flags-small, stop-small}
 use Rattle.r8.proofs.call.put_state.Statement.{statement}
@@ -17,7 +16,6 @@ cast-state-2 : tie.Need-cast-state-2
 cast-state-2 c = omega (arith, c .stop-number .ensures, stop-small (c .before .before .before .before .before .args .core .stop))
 
 returns : tie.Need-returns
-unfolding onto
 returns c =
     let start = c .before .before .before .before .before .before in
     let core = start .args .core in

@@ -8,7 +8,7 @@ use borrow.Author.Needs.{needs}
 use Rattle.forms.specs.Answers.{Answer, formAnswer}
 use Rattle.forms.specs.Reading.{wordToForm}
 use Rattle.forms.specs.declared.Form.{Form}
-use Rattle.r8.specs.Slices.{onto}
+use Rattle.layout.specs.Layout.{onto}
 use Rattle.r8.specs.Form.{formSize, formedFrom, formed}
 use Rattle.r8.proofs.form.r8_form.Statement.{statement}
 use Rattle.r8.proofs.form.r8_form.Tie as tie
