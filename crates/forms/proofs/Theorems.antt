@@ -23,10 +23,14 @@ use Rattle.forms.specs.declared.Operands.{Operands}
 use Rattle.forms.specs.Answers.{Answer, given, refused}
 use Rattle.forms.specs.Operands.{signed, unsigned, operandsOf, fault, placed}
 use Rattle.forms.specs.Reading.{formWith, wordToForm}
-use Rattle.forms.specs.Writing.{written, formToWord}
+use Rattle.forms.specs.Writing.{writtenAt, formToWord}
 use Rattle.forms.specs.Theorems.{unusedBy, unused, FormWordForm, WordFormWord, Unchanged, RefusedWord, outOfRange, RefusedForm}
 use Rattle.forms.proofs.Faults.{Sound, writes, wrote, refuses}
 use Rattle.forms.proofs.Displacement.{bits10, bits12}
+
+-- an instruction with operands, as a word
+abbrev written : Kind → Operands → Answer ℕ
+written kind x = writtenAt (entry kind) x
 
 -- a word that stands at a kind's entry is read by that kind
 read-as : (k : Kind) (w : ℕ) → placeOf w ≡ entry k → wordToForm w ≡ formWith k (operandsOf w)

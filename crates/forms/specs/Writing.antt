@@ -17,10 +17,6 @@ use Rattle.forms.specs.Operands.{fault, placed}
 unfoldable pub writtenAt : ℕ → Operands → Answer ℕ
 writtenAt n x = cond (fault x) (refused 5) (given (sum (wordOf n) (placed x)))
 
--- an instruction with operands, as a word
-abbrev pub written : Kind → Operands → Answer ℕ
-written kind x = writtenAt (entry kind) x
-
 -- an instruction by its place in the table, with operands
 abbrev pub parts : Kind → Operands → Parts
 parts kind x = record { 0 = entry kind; 1 = x }

@@ -2,8 +2,6 @@
 use Prim.Native.Nat.{ℕ}
 use Rattle.listing.specs.declared.Fault.{Fault}
 use Rattle.listing.specs.declared.Fault.the-variants.{IllFormed, NotAbove, PastEnd}
-use Rattle.listing.specs.declared.Verdict.{Verdict}
-use Rattle.listing.specs.declared.Verdict.the-variants.{Passed, Failed}
 use Rattle.listing.specs.declared.StoreAnswer.{StoreAnswer}
 use Rattle.listing.specs.declared.StoreAnswer.the-variants.{Stored, Refused}
 
@@ -17,11 +15,6 @@ abbrev pub faultNumber : Fault → ℕ
 faultNumber IllFormed = 2
 faultNumber NotAbove = 3
 faultNumber PastEnd = 4
-
--- the verdict on one line; 0 where it has no fault
-abbrev pub verdictNumber : Verdict → ℕ
-verdictNumber Passed = 0
-verdictNumber (Failed fault) = faultNumber fault
 
 abbrev pub storeAnswer : StoreAnswer → Answer
 storeAnswer (Stored count) = stored count

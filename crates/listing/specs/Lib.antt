@@ -2,3 +2,4 @@
 pub mod Answers
 pub mod Listing
 pub mod Theorems
+pub mod Verdicts

@@ -3,7 +3,8 @@ ghost use mathlib.Core.Path.{_≡_};
 ghost use lib.ListN.{length};
 ghost use Rattle.hex.specs.Digits.{Holds};
 ghost use Rattle.lines.specs.Lines.{lines};
-ghost use Rattle.listing.specs.Answers.{faultNumber, verdictNumber, storeAnswer};
+ghost use Rattle.listing.specs.Answers.{faultNumber, storeAnswer};
+ghost use Rattle.listing.specs.Verdicts.{verdictNumber};
 ghost use Rattle.listing.specs.Listing.{lowestAfter, addressFault, faultOf, sound, checkOf, wordsOf, storeLine, storeLines, listingAnswer, listingMemory};
 use lines::Line;
 

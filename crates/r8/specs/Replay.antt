@@ -1,9 +1,9 @@
 -- r8_replay: what it returns, and what is then in the slices and behind `at`.
 use mathlib.Core.List.{List}
 use Prim.Native.Nat.{ℕ}
-use Rattle.lists.specs.Replay.{Replayed}
-use Rattle.lists.specs.declared.ReplayAnswer.{ReplayAnswer}
-use Rattle.lists.specs.declared.ReplayAnswer.the-variants.{Played, NoCall, NoStretch, NoRoom}
+use Rattle.replay.specs.Replay.{Replayed}
+use Rattle.replay.specs.declared.ReplayAnswer.{ReplayAnswer}
+use Rattle.replay.specs.declared.ReplayAnswer.the-variants.{Played, NoCall, NoStretch, NoRoom}
 
 -- 0: played; 1: a call is none of the five; 2: a load names no stretch of the text; 3: the answers are too short
 abbrev pub replayCode : ReplayAnswer → ℕ
@@ -28,6 +28,6 @@ pub record Returned : Type 0 where
 abbrev pub returnedReplay : ℕ → ℕ → List ℕ → List ℕ → Returned
 returnedReplay code at memory answers = record { code = code; at = at; memory = memory; answers = answers }
 
--- what `lists` says of a replay, with its answer as numbers
+-- what `replay` says of it, with its answer as numbers
 abbrev pub replayReturned : Replayed → Returned
 replayReturned x = returnedReplay (replayCode (x .answer)) (replayPlace (x .answer)) (x .memory) (x .answers)

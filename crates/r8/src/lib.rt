@@ -3,5 +3,5 @@
 mod copy; // words copied to the front of a lent slice
 pub mod form; // r8_form
 pub mod call; // r8_run, r8_step
-pub mod replay; // r8_replay
+pub mod list; // r8_replay
 pub mod rows; // r8_trace

@@ -2,7 +2,7 @@
 // answer, or the first line of the script that cannot be read.
 ghost use Prim.Native.Nat.{_≤_};
 ghost use lib.ListN.{length};
-use lists::ReplayAnswer;
+use replay::ReplayAnswer;
 use script::ScriptAnswer;
 
 // A word of an answer. It fits; the remainder only says so.
@@ -103,7 +103,7 @@ fn write_line(before: &[u8], n: usize, after: &[u8]) {
 // answers fit: the last three cases do not arise.
 fn play(calls: &[u64], input: &[u8], answers: &mut [u64]) {
     let mut memory = [0u16; 16384];
-    let answer = lists::replay(calls, input, &mut memory, answers);
+    let answer = replay::replay(calls, input, &mut memory, answers);
     match answer {
         ReplayAnswer::Played(_) => write_answers(answers),
         ReplayAnswer::NoCall(i) => write_line(b"no call ", i, b"\n"),

@@ -8,8 +8,8 @@ use borrow.Author.Tests.{le-leb}
 use lib.ListN.{length, take, drop}
 use Rattle.lines.specs.Lines.{lines}
 use Rattle.lines.specs.Theorems.{startAfter}
-use Rattle.lists.specs.Theorem.{Call, reset, load, run, step, view}
-use Rattle.lists.specs.Replay.{readCall, Reading, listed, following, ahead, readFrom}
+use Rattle.machine.specs.Theorem.{Call, reset, load, run, step, view}
+use Rattle.replay.specs.Replay.{readCall, Reading, listed, following, readThen, readFrom}
 use Rattle.script.specs.Commands.{commandOf}
 use Rattle.script.specs.Script.{isLoad, isEnd, inside, meaningOf, afterOutside, afterInside, placeAfter, Script, calls, unreadable, call, followed, scriptFrom, scriptOf, numbersOf}
 use Rattle.script.specs.Script as script
@@ -57,7 +57,7 @@ module _ (text : List ℕ) where
   Means meaning.Nothing s = s ≡ []
   Means (meaning.Call kind first second) s =
       (c : Call)
-      × ((i : ℕ) (rest : Reading) → ahead text i (readCall kind first second (length text)) rest ≡ following c rest)
+      × ((i : ℕ) (rest : Reading) → readThen text i (readCall kind first second (length text)) rest ≡ following c rest)
       × (s ≡ c ∷ [])
   Means meaning.Unreadable s = Unit
 

@@ -1,4 +1,4 @@
--- What the numbers of a script are to `lists::replay`: the calls that its lines say. One statement, `ScriptPlayed`, proved in
+-- What the numbers of a script are to `replay::replay`: the calls that its lines say. One statement, `ScriptPlayed`, proved in
 -- proofs/Played.antt. The definitions above it know nothing of numbers: a call is one of the theorem over lists.
 use mathlib.Core.Path.{_≡_}
 use mathlib.Core.Bool.{cond}
@@ -6,8 +6,8 @@ use mathlib.Core.List.{List, [], _∷_, _++_}
 use Prim.Native.Nat.{ℕ, _+_, _-_}
 use lib.ListN.{length, take, drop}
 use Rattle.lines.specs.Lines.{lines}
-use Rattle.lists.specs.Theorem.{Call, reset, load, run, step, view}
-use Rattle.lists.specs.Replay.{listed, readCalls}
+use Rattle.machine.specs.Theorem.{Call, reset, load, run, step, view}
+use Rattle.replay.specs.Replay.{listed, readCalls}
 use Rattle.script.specs.Commands.{commandOf}
 use Rattle.script.specs.Script.{isLoad, isEnd, calls, scriptOf, numbersOf}
 use Rattle.script.specs.Script as script
@@ -47,7 +47,7 @@ meant text opened start (line ∷ rest) =
     said text opened (commandOf line) start
     ++ meant text (openedAfter opened (commandOf line) (start + length line + 1)) (start + length line + 1) rest
 
--- the numbers of a script that is read are, to `lists::replay`, the calls that its lines say: every stretch lies in the text and every
+-- the numbers of a script that is read are, to `replay::replay`, the calls that its lines say: every stretch lies in the text and every
 -- budget has 32 bits, so none of them is refused (proved as `script-played`)
 abbrev pub ScriptPlayed : Type 0
 ScriptPlayed =

@@ -1,4 +1,4 @@
--- Scripts: the calls that the lines of a text are, as `lists::replay` takes them. The contract of `read` is an equation with
+-- Scripts: the calls that the lines of a text are, as `replay::replay` takes them. The contract of `read` is an equation with
 -- `scriptRead`.
 use mathlib.Core.Bool.{Bool, true, false, cond}
 use mathlib.Core.List.{List, [], _∷_, _++_}

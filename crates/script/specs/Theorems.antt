@@ -9,7 +9,7 @@ use Rattle.script.specs.Script.{Call, call, calls, scriptOf}
 abbrev pub FewCalls : Type 0
 FewCalls = (text : List ℕ) (cs : List Call) → scriptOf text ≡ calls cs → 5 * length cs ≤ length text + 1
 
--- the numbers of one of the five calls, as `lists::replay` reads them: the stretch of a load lies in the text, a budget has 32 bits
+-- the numbers of one of the five calls, as `replay::replay` reads them: the stretch of a load lies in the text, a budget has 32 bits
 abbrev pub IsCall : ℕ → Call → Type 0
 IsCall size (call kind first second) =
     (kind ≤ 4) × (kind ≡ 1 → (first ≤ second) × (second ≤ size)) × (kind ≡ 2 → first ≤ 4294967295)

@@ -1,4 +1,4 @@
-// Scripts: calls as lines of text, read into the numbers that lists::replay takes.
+// Scripts: calls as lines of text, read into the numbers that replay::replay takes.
 ghost use mathlib.Core.Path.{_≡_};
 ghost use Prim.Native.Nat.{_+_, _*_, _≤_, _<_};
 ghost use lib.ListN.{length};
@@ -30,7 +30,7 @@ enum Place {
     Inside { number: usize, from: usize },
 }
 
-// What a line comes to at its place: a call is the three numbers of lists::replay.
+// What a line comes to at its place: a call is the three numbers of replay::replay.
 enum Meaning {
     Nothing,
     Call { kind: u64, first: u64, second: u64 },

@@ -6,7 +6,8 @@ use native.Mathlib.Omega.{arith}
 use borrow.Author.Needs.{needs}
 use lib.ListN.{length, drop}
 use Rattle.lines.specs.Lines.{lines}
-use Rattle.listing.specs.Answers.{stored, faultNumber, verdictNumber}
+use Rattle.listing.specs.Answers.{stored, faultNumber}
+use Rattle.listing.specs.Verdicts.{verdictNumber}
 use Rattle.listing.specs.Listing.{firstFault, wordsIn, checkOf, listingAnswer}
 use Rattle.listing.proofs.Turns.{numbered, words-le, turn, sound-line, faulty-line, counted, no-fault, no-words}
 use Rattle.listing.proofs.check.Statement.{statement}

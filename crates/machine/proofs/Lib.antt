@@ -1,0 +1,5 @@
+-- Proof of the theorem over every list of calls.
+pub mod Runs
+pub mod Relation
+pub mod Calls
+pub mod Theorem

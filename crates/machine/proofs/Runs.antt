@@ -1,0 +1,212 @@
+-- A run of the datapath and the loop of the instruction machine, from the start of an instruction on.
+use mathlib.Core.Path.{_≡_, refl, sym, ap, subst, _∙_}
+use mathlib.Core.Bool.{Bool, true, false, cond}
+use mathlib.Core.List.{List, _∷_}
+use Prim.Native.Nat.{ℕ, zero, suc, _+_, _-_, _≤_, _<_}
+use native.Mathlib.Omega.{arith}
+use native.Mathlib.Nat.{add-zero, add-assoc}
+use borrow.Author.Tests.{leb-true, leb-false, le-leb}
+use lib.Dec.{leb}
+use lib.ListN.{length}
+use Rattle.effects.specs.declared.Stop.{Stop}
+use Rattle.effects.specs.declared.Stop.the-variants.{Going, Halted, Undefined}
+use Rattle.core.specs.Cores.{visibleOf}
+use Rattle.core.specs.Spent.{dueOne}
+use Rattle.core.specs.Instruction.{wordDue, takes}
+use Rattle.core.specs.Numbers.{isGoing}
+use Rattle.core.specs.Progress.{Progress, starting, cyclesOn}
+use Rattle.core.specs.declared.Core.{Core}
+use Rattle.core.proofs.Cycles.{only-going, no-cycle, none-more, cycles-add, counted, cycles-counted, cost-range}
+use Rattle.core.proofs.OneInstruction.{Finished, one-finished, one-instruction}
+use Rattle.machine.specs.Machine.{Logged, cyclesOf, Loop, goesOn, afterOne, looped, used, spentAfter}
+
+-- the cost of the instruction at the start of which p is
+abbrev costNow : Progress → ℕ
+costNow p = takes (p .memory) (visibleOf (p .core))
+
+-- the loop at the start of an instruction of p
+abbrev pub loopAt : Progress → ℕ → List Logged → Loop
+loopAt p t log = record { visible = visibleOf (p .core); memory = p .memory; t = t; log = log }
+
+-- where the cycles end: from p and x on, at q and y. `start` is the core at the start of the instruction that is unfinished, if one is
+pub record Arrived (p q : Progress) (x y : Loop) : Type 0 where
+  pub start : Core
+  pub due : dueOne start ≡ true
+  pub visible : visibleOf start ≡ y .visible
+  pub memory : q .memory ≡ y .memory
+  pub core : q .core ≡ cyclesOn (spentAfter (y .visible .stop) (y .t)) (starting start (y .memory)) .core
+  pub within : isGoing (y .visible .stop) ≡ true → y .t < takes (y .memory) (y .visible)
+  pub less : y .t ≤ x .t
+  pub clock : start .clock .0 + y .t ≡ p .core .clock .0 + x .t
+  pub used : q .used ≡ p .used + used (y .visible .stop) (x .t) (y .t)
+  pub finished : q .finished + length (x .log) ≡ p .finished + length (y .log)
+  pub total : cyclesOf (y .log) + y .t ≡ cyclesOf (x .log) + x .t
+
+pub spent-going : (s : Stop) (t : ℕ) → isGoing s ≡ true → spentAfter s t ≡ t
+spent-going Going t e = refl
+spent-going Halted t e = cc
+spent-going Undefined t e = cc
+
+pub spent-stopped : (s : Stop) (t : ℕ) → isGoing s ≡ false → spentAfter s t ≡ 0
+spent-stopped Going t e = cc
+spent-stopped Halted t e = refl
+spent-stopped Undefined t e = refl
+
+used-going : (s : Stop) (b t : ℕ) → isGoing s ≡ true → used s b t ≡ b
+used-going Going b t e = refl
+used-going Halted b t e = cc
+used-going Undefined b t e = cc
+
+used-stopped : (s : Stop) (b t : ℕ) → isGoing s ≡ false → used s b t ≡ b - t
+used-stopped Going b t e = cc
+used-stopped Halted b t e = refl
+used-stopped Undefined b t e = refl
+
+-- what was counted before has no part in the core
+pub from-nothing : (n : ℕ) (p : Progress) → cyclesOn n p .core ≡ cyclesOn n (starting (p .core) (p .memory)) .core
+from-nothing n p =
+    let u = add-zero (p .used) in
+    let f = add-zero (p .finished) in
+    let same : counted (p .used) (p .finished) (starting (p .core) (p .memory)) ≡ p =
+    λ j. record { core = p .core; memory = p .memory; used = u j; finished = f j } in
+    ap (λ (q : Progress). cyclesOn n q .core) (sym same)
+    ∙ ap (λ (q : Progress). q .core) (cycles-counted n (p .used) (p .finished) (starting (p .core) (p .memory)))
+
+-- the loop ends where the core is stopped
+ends-stopped : (t : ℕ) (log : List Logged) (p : Progress) → dueOne (p .core) ≡ true → isGoing (p .core .stop) ≡ false
+    → Arrived p (cyclesOn t p) (loopAt p t log) (loopAt p t log)
+ends-stopped t log p d e =
+    let stays = none-more t p e in
+    record {
+      start = p .core;
+      due = d;
+      visible = refl;
+      memory = ap (λ (q : Progress). q .memory) stays;
+      core =
+          ap (λ (q : Progress). q .core) stays
+          ∙ sym
+          (ap (λ (n : ℕ). cyclesOn n (starting (p .core) (p .memory)) .core) (spent-stopped (p .core .stop) t e)
+          ∙ ap (λ (q : Progress). q .core) (no-cycle (starting (p .core) (p .memory))));
+      within = λ g. absurd (let z : _≡_ {A = ℕ} 0 1 = cc in omega arith);
+      less = omega arith;
+      clock = refl;
+      used = ap (λ (q : Progress). q .used) stays ∙ rw (used-stopped (p .core .stop) t t e) (omega arith);
+      finished = ap (λ (q : Progress). q .finished + length log) stays;
+      total = refl;
+    }
+
+-- or where the next instruction costs more than is left
+ends-within : (t : ℕ) (log : List Logged) (p : Progress) → dueOne (p .core) ≡ true → isGoing (p .core .stop) ≡ true
+    → t < takes (p .memory) (visibleOf (p .core)) → Arrived p (cyclesOn t p) (loopAt p t log) (loopAt p t log)
+ends-within t log p d g l =
+    let mid = one-instruction p (only-going (p .core .stop) g) d .0 t l in
+    record {
+      start = p .core;
+      due = d;
+      visible = refl;
+      memory = mid .memory;
+      core = from-nothing t p ∙ sym (ap (λ (n : ℕ). cyclesOn n (starting (p .core) (p .memory)) .core) (spent-going (p .core .stop) t g));
+      within = λ _. l;
+      less = omega arith;
+      clock = refl;
+      used = mid .used ∙ ap (λ (n : ℕ). p .used + n) (sym (used-going (p .core .stop) t t g));
+      finished = ap (λ (n : ℕ). n + length log) (mid .finished);
+      total = refl;
+    }
+
+used-more : (s : Stop) (c t y : ℕ) → y ≤ t → c + used s t y ≡ used s (c + t) y
+used-more Going c t y l = refl
+used-more Halted c t y l = omega arith
+used-more Undefined c t y l = omega arith
+
+-- the instruction that the loop has come to, as one executed
+abbrev here : Progress → Logged
+here p = record { word = wordDue (p .memory) (visibleOf (p .core)); flags = p .core .flags }
+
+-- an instruction before: from the start of the next to the start of this one
+one-before : (t t′ : ℕ) (log : List Logged) (p p′ q : Progress) (y : Loop) → Finished p p′
+    → t ≡ takes (p .memory) (visibleOf (p .core)) + t′
+    → Arrived p′ q (loopAt p′ t′ (here p ∷ log)) y → Arrived p q (loopAt p t log) y
+unfolding cyclesOf takes
+one-before t t′ log p p′ q y f e a =
+    let c = takes (p .memory) (visibleOf (p .core)) in
+    let s = y .visible .stop in
+    record {
+      start = a .start;
+      due = a .due;
+      visible = a .visible;
+      memory = a .memory;
+      core = a .core;
+      within = a .within;
+      less = omega (arith, a .less);
+      clock = omega (arith, a .clock, f .clock);
+      used =
+          a .used ∙ ap (λ (n : ℕ). n + used s t′ (y .t)) (f .used) ∙ add-assoc (p .used) c (used s t′ (y .t))
+          ∙ ap (λ (n : ℕ). p .used + n) (used-more s c t′ (y .t) (a .less) ∙ ap (λ (n : ℕ). used s n (y .t)) (sym e));
+      finished = omega (arith, a .finished, f .finished);
+      total = omega (arith, a .total);
+    }
+
+-- an instruction executed
+next : (t : ℕ) (log : List Logged) (p p′ : Progress) → Finished p p′
+    → afterOne (loopAt p t log) ≡ loopAt p′ (t - takes (p .memory) (visibleOf (p .core))) (here p ∷ log)
+next t log p p′ f =
+    let visible = sym (f .visible) in
+    let memory = sym (f .memory) in
+    λ j. record {
+      visible = visible j;
+      memory = memory j;
+      t = t - takes (p .memory) (visibleOf (p .core));
+      log = here p ∷ log;
+    }
+
+last-turn : (n : ℕ) (x : Loop) → goesOn x ≡ false → looped n x ≡ x
+unfolding looped
+last-turn zero x e = refl
+last-turn (suc n) x e = rw e
+
+one-turn : (n : ℕ) (x : Loop) → goesOn x ≡ true → looped (suc n) x ≡ looped n (afterOne x)
+unfolding looped
+one-turn n x e = rw e
+
+-- where it ends it has arrived; what is left is where it goes on
+arrives-if : (n t : ℕ) (log : List Logged) (p : Progress) → dueOne (p .core) ≡ true
+    → (isGoing (p .core .stop) ≡ true → costNow p ≤ t
+    → Arrived p (cyclesOn t p) (loopAt p t log) (looped n (loopAt p t log)))
+    → Arrived p (cyclesOn t p) (loopAt p t log) (looped n (loopAt p t log))
+arrives-if n t log p d go = by (isGoing (p .core .stop)) refl (leb (costNow p) t) refl
+  where
+    by : (g : Bool) → isGoing (p .core .stop) ≡ g → (l : Bool) → leb (costNow p) t ≡ l
+        → Arrived p (cyclesOn t p) (loopAt p t log) (looped n (loopAt p t log))
+    by true g true l = go g (leb-true (costNow p) t l)
+    by true g false l =
+        subst (Arrived p (cyclesOn t p) (loopAt p t log)) (sym (last-turn n (loopAt p t log) (λ j. cond (g j) (l j) false)))
+        (ends-within t log p d g (leb-false (costNow p) t l))
+    by false g l m =
+        subst (Arrived p (cyclesOn t p) (loopAt p t log)) (sym (last-turn n (loopAt p t log) (λ j. cond (g j) (leb (costNow p) t) false)))
+        (ends-stopped t log p d g)
+
+-- the loop, from every instruction's start
+pub arrives : (n t : ℕ) (log : List Logged) (p : Progress) → dueOne (p .core) ≡ true → t ≤ n
+    → Arrived p (cyclesOn t p) (loopAt p t log) (looped n (loopAt p t log))
+arrives zero t log p d l =
+    arrives-if zero t log p d (λ g m. absurd (omega (arith, cost-range (p .memory) (visibleOf (p .core)) .0)))
+arrives (suc n) t log p d l = arrives-if (suc n) t log p d (λ g m. on g m (arrives n))
+  where
+    on : isGoing (p .core .stop) ≡ true → costNow p ≤ t
+        → ((t : ℕ) (log : List Logged) (p : Progress) → dueOne (p .core) ≡ true → t ≤ n
+        → Arrived p (cyclesOn t p) (loopAt p t log) (looped n (loopAt p t log)))
+        → Arrived p (cyclesOn t p) (loopAt p t log) (looped (suc n) (loopAt p t log))
+    on g m ih =
+        let f = one-finished p (only-going (p .core .stop) g) d in
+        let c = costNow p in
+        let enough = le-leb c t m in
+        let x = loopAt p t log in
+        let p′ = cyclesOn c p in
+        let e : t ≡ c + (t - c) = omega arith in
+        let q : cyclesOn t p ≡ cyclesOn (t - c) p′ = ap (λ (t : ℕ). cyclesOn t p) e ∙ cycles-add c (t - c) p in
+        let y : looped (suc n) x ≡ looped n (loopAt p′ (t - c) (here p ∷ log)) =
+        one-turn n x (λ j. cond (g j) (enough j) false) ∙ ap (looped n) (next t log p p′ f) in
+        rw (q, y)
+        (one-before t (t - c) log p p′ (cyclesOn (t - c) p′) (looped n (loopAt p′ (t - c) (here p ∷ log))) f e
+        (ih (t - c) (here p ∷ log) p′ (f .due) (omega (arith, cost-range (p .memory) (visibleOf (p .core)) .0))))

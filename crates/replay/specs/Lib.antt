@@ -1,0 +1,3 @@
+-- Lists of calls given as data.
+pub mod Replay
+pub mod ReplayParts
