@@ -125,6 +125,15 @@ pub from-byte : (front : Line) (t : List ℕ) → (length t ≡ 0 → ⊥) → l
 from-byte front [] n = absurd (n refl)
 from-byte front (b ∷ t) n = refl
 
+-- and a line's end by the first byte after the spaces, if any
+pub ends-at-end : (t : List ℕ) → length t ≡ 0 → nothingOrComment t ≡ true
+ends-at-end [] e = refl
+ends-at-end (b ∷ t) e = absurd (omega (arith, e))
+
+pub ends-by-byte : (t : List ℕ) → (length t ≡ 0 → ⊥) → nothingOrComment t ≡ eqb (getD t 0 0) semicolon
+ends-by-byte [] n = absurd (n refl)
+ends-by-byte (b ∷ t) n = refl
+
 -- where there is none, the line is blank or ill-formed
 never : (a b w : ℕ) (v : Bool) → entryFrom a b w true ≡ IllFormed → entryFrom a b w v ≡ IllFormed
 unfolding entryFrom

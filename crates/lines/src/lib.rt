@@ -5,7 +5,7 @@ ghost use Prim.Native.Nat.{_+_, _≤_, min};
 ghost use lib.Dec.{leb};
 ghost use lib.ListN.{length, drop};
 ghost use Rattle.hex.specs.Digits.{digitValue, Holds};
-ghost use Rattle.lines.specs.Lines.{find, firstLine, afterSpaces, fourDigits, numberAt, entryFrom, readLine};
+ghost use Rattle.lines.specs.Lines.{find, firstLine, afterSpaces, ends, fourDigits, numberAt, entryFrom, readLine};
 ghost use Rattle.lines.specs.LineReader.{entryAtFront, entryLength, entryAlone, lineWith};
 ghost use Rattle.lines.specs.declared.Line.the-variants.{IllFormed};
 ghost use Rattle.lines.specs.Comment.{commentText, commentStart};
@@ -87,6 +87,17 @@ fn after_spaces(s: &[u8]) -> &[u8]
         i += 1;
     }
     &s[i..]
+}
+
+// Whether a line ends so: spaces or none, then nothing or `;` and a comment.
+pub fn line_ends(s: &[u8]) -> bool
+    ensures { λ r. ⌜ r ≡ ends (now (s .entry)) ⌝ }
+{
+    let t = after_spaces(s);
+    if t.len() == 0 {
+        return true;
+    }
+    t[0] == SEMICOLON
 }
 
 fn digit(table: &[u8; 256], b: u8) -> u8

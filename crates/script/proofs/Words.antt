@@ -1,5 +1,5 @@
--- Words at the front of a line, and the end of a line, a byte further at a time. Assumes nothing.
-use mathlib.Core.Path.{_≡_, sym, ap, _∙_}
+-- Words at the front of a line, a byte further at a time. Assumes nothing.
+use mathlib.Core.Path.{_≡_}
 use mathlib.Core.Bool.{Bool, true, false, cond}
 use mathlib.Core.List.{List, [], _∷_}
 use Prim.Native.Nat.{ℕ, suc, _+_, _≤_, _<_}
@@ -9,16 +9,7 @@ use borrow.Author.Tests.{eq-eqb, ne-eqb}
 use lib.Dec.{eqb}
 use lib.ListN.{length, getD, drop, drop-of-length-le}
 use lib.Seq.{drop-cons}
-use Rattle.lines.specs.Lines.{space, semicolon, afterSpaces, nothingOrComment, ends}
-use Rattle.lines.proofs.Places.{spaces-over, spaces-nothing}
 use Rattle.script.specs.Commands.{begins}
-
-module _ (s : List ℕ) (i : ℕ) (e : afterSpaces s ≡ afterSpaces (drop i s)) where
-  pub ends-over : i < length s → (getD s i 0 ≡ space → ⊥) → eqb (getD s i 0) semicolon ≡ ends s
-  ends-over h n = sym (ap nothingOrComment (e ∙ spaces-over s i h n ∙ drop-cons s i 0 h))
-
-  pub ends-nothing : length s ≤ i → true ≡ ends s
-  ends-nothing h = sym (ap nothingOrComment (e ∙ spaces-nothing s i h ∙ drop-of-length-le s h))
 
 module _ (word line : List ℕ) (i : ℕ) where
   pub begins-further : i < length word → i < length line → getD line i 0 ≡ getD word i 0

@@ -2,14 +2,9 @@
 ghost use mathlib.Core.Path.{_≡_};
 ghost use Prim.Native.Nat.{_+_, _*_, _≤_, _<_};
 ghost use lib.ListN.{length};
-ghost use Rattle.lines.specs.Lines.{ends};
 ghost use Rattle.script.specs.Commands.{begins, says, isDigit, runOf, budgetOf, commandOf};
 ghost use Rattle.script.specs.Script.{outside, isLoad, isEnd, inside, meaningOf, afterOutside, afterInside, placeAfter, followed, scriptOf, gave, scriptRead};
 ghost use Rattle.script.specs.ScriptParts.{scriptAt, Within, verdictOf, atEndAnswer, callsIn, put, Fits, callsWritten};
-
-const SPACE: u8 = 32;
-
-const SEMICOLON: u8 = 59;
 
 // What one line says.
 enum Command {
@@ -65,20 +60,6 @@ pub enum ScriptAnswer {
     NoRoom,
 }
 
-// Spaces or none, then nothing or a comment.
-fn line_ends(s: &[u8]) -> bool
-    ensures { λ r. ⌜ r ≡ ends (now (s .entry)) ⌝ }
-{
-    let mut i = 0;
-    while i < s.len() {
-        if s[i] != SPACE {
-            return s[i] == SEMICOLON;
-        }
-        i += 1;
-    }
-    true
-}
-
 fn begins_with(word: &[u8], line: &[u8]) -> bool
     ensures { λ r. ⌜ r ≡ begins (now (word .entry)) (now (line .entry)) ⌝ }
 {
@@ -101,7 +82,7 @@ fn is_word(word: &[u8], line: &[u8]) -> bool
 {
     if begins_with(word, line) {
         let n = word.len();
-        return line_ends(&line[n..]);
+        return lines::line_ends(&line[n..]);
     }
     false
 }
@@ -148,7 +129,7 @@ fn read_budget(s: &[u8]) -> Command
     let mut i = 0;
     while i < s.len() {
         if !is_digit(s[i]) {
-            return run_of(value, line_ends(&s[i..]));
+            return run_of(value, lines::line_ends(&s[i..]));
         }
         value = value * 10 + wide(s[i] - 48);
         if 4294967295 < value {
@@ -162,7 +143,7 @@ fn read_budget(s: &[u8]) -> Command
 fn read_command(line: &[u8]) -> Command
     ensures { λ r. ⌜ r ≡ commandOf (now (line .entry)) ⌝ }
 {
-    if line_ends(line) {
+    if lines::line_ends(line) {
         return Command::Blank;
     }
     if is_word(b"reset", line) {
