@@ -1,7 +1,7 @@
 -- Laws for the code of the calls: the reply that a number makes, and a turn of a run's loop.
 use mathlib.Core.Path.{_≡_, refl, sym, ap, _∙_}
 use mathlib.Core.Bool.{Bool, true, false, cond, not}
-use mathlib.Core.List.{List, [], _∷_}
+use mathlib.Core.List.{List, []}
 use borrow.Author.Tests.{ne-eqb, not-false}
 use Prim.Native.Nat.{ℕ, _-_, _≤_}
 use native.Mathlib.Omega.{arith}

@@ -4,7 +4,7 @@ use mathlib.Core.List.{List}
 use Prim.Native.Nat.{ℕ, _+_}
 use Rattle.words.specs.Memory.{wordAt}
 use Rattle.words.specs.Arithmetic.{sum}
-use Rattle.isa.specs.Fields.{fieldA, fieldB}
+use Rattle.isa.specs.Fields.{fieldB}
 use Rattle.isa.specs.Cost.{costOf}
 use Rattle.isa.specs.declared.Flags.{Flags}
 use Rattle.isa.specs.declared.Kind.{Kind}

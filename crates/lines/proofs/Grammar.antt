@@ -15,10 +15,9 @@ use lib.Seq.{drop-cons, drop-drop, drop-append-add, drop-at, getD-take, getD-dro
 use Rattle.hex.specs.Digits.{digitValue}
 use Rattle.lines.specs.Lines.{space, semicolon, afterSpaces, isEmpty, nothingOrComment, ends, byteAt, fourDigits, numberAt, entryFrom, entryOf, readLine}
 use Rattle.lines.specs.Theorems.{digitAt, NumberExactly, Writes, EntryLine, EntryExactly, BlankExactly}
-use Rattle.lines.specs.declared.Line.{Line}
 use Rattle.lines.specs.declared.Line.the-variants.{Blank, Entry, IllFormed}
 use Rattle.lines.proofs.Places.{too-short}
-use Rattle.lines.proofs.Entries.{Entered, LineEntered, blank-no-entry, ill-formed-no-entry, line-entered}
+use Rattle.lines.proofs.Entries.{blank-no-entry, ill-formed-no-entry, line-entered}
 
 -- the spaces at the front, counted
 spaces-of : (t : List ℕ) → (k : ℕ) × (t ≡ replicate k space ++ afterSpaces t)

@@ -7,7 +7,7 @@ use Prim.Native.Nat.{ℕ, suc, _<_}
 use native.Mathlib.Omega.{arith}
 use borrow.Author.Tests.{ltb-true, eqb-true, eqb-false, lt-ltb}
 use lib.Dec.{eqb, ltb}
-use Rattle.refusals.specs.Refusals.{refusalNumber, wrongLength, firstNumber, verdictNumber, firstAfter}
+use Rattle.refusals.specs.Refusals.{refusalNumber, firstNumber, verdictNumber, firstAfter}
 use Rattle.refusals.specs.Theorems.{First, Taken, Means, Mean, LengthExactly, FirstExactly}
 use Rattle.refusals.specs.declared.Verdict.{Verdict}
 use Rattle.refusals.specs.declared.Verdict.the-variants as verdict

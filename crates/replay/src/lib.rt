@@ -4,7 +4,7 @@ ghost use mathlib.Core.List.{_++_};
 ghost use Prim.Native.Nat.{ℕ, _≤_};
 ghost use lib.ListN.{length, take, drop};
 ghost use Rattle.layout.specs.Layout.{ontoIfRoom, numbered, gave};
-ghost use Rattle.machine.specs.Theorem.{Call, onCore, playCore};
+ghost use Rattle.machine.specs.Theorem.{onCore};
 ghost use Rattle.replay.specs.Replay.{readStretch, readBudget, readCall, callOf, readCalls, replayed, replayGave};
 ghost use Rattle.replay.specs.ReplayParts.{frontCall, verdictOf, FitsIn, ReadFits, ReadWhole, Playable, corePlayed, afterPlay};
 use core::Core;

@@ -1,6 +1,6 @@
 -- The bits of words: three statements, proved in proofs/Theorems.antt.
 use mathlib.Core.Path.{_≡_}
-use Prim.Native.Nat.{ℕ, _+_, _*_, _/_, _%_, _^_, min, max}
+use Prim.Native.Nat.{ℕ, _+_, _/_, _%_, _^_, min, max}
 use Rattle.words.specs.Arithmetic.{conjunction, disjunction, exclusive}
 
 -- bit i of a number

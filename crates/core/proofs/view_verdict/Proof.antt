@@ -2,7 +2,6 @@
 use mathlib.Core.Path.{_∙_}
 use mathlib.Core.List.{[]}
 use borrow.Author.Needs.{needs}
-use Rattle.refusals.specs.Refusals.{firstNumber}
 use Rattle.refusals.proofs.First.{asked-all}
 use Rattle.core.specs.Numbers.{viewNumber}
 use Rattle.core.proofs.view_verdict.Statement.{statement}
