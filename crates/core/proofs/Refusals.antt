@@ -10,7 +10,7 @@ use borrow.Author.Tests.{ltb-true, ltb-false, leb-true, leb-false, eqb-true, eqb
 use lib.Dec.{eqb, leb}
 use lib.ListN.{length}
 use Rattle.refusals.specs.Refusals.{wrongLength}
-use Rattle.refusals.specs.Theorems.{Means, Mean}
+use Rattle.refusals.specs.Theorems.{Means, MeanAll}
 use Rattle.refusals.proofs.First.{clash, no-more, more, first-exactly, none-applies, length-exactly}
 use Rattle.listing.specs.Answers as listing
 use Rattle.listing.specs.Listing.{listingAnswer}
@@ -121,11 +121,11 @@ both p q = (λ a. q .0 (p .0 a), λ c. p .1 (q .1 c))
 
 -- the tests of each call, in their order
 module _ (core : Core) (memory : List ℕ) where
-  pub load-mean : Mean ((1, wrongLength (length memory)) ∷ (7, not (dueOne core)) ∷ []) (loadNumbers core memory)
+  pub load-mean : MeanAll ((1, wrongLength (length memory)) ∷ (7, not (dueOne core)) ∷ []) (loadNumbers core memory)
   load-mean = more 1 _ _ _ _ (λ e. omega arith) (length-exactly (length memory)) (more 7 _ _ _ _ (λ e. omega arith) (one-means core) no-more)
 
   pub run-mean : (b : ℕ)
-      → Mean
+      → MeanAll
       ((1, wrongLength (length memory))
       ∷ (8, not (isGoing (core .stop)))
       ∷ (7, not (dueInRange core))
@@ -138,7 +138,7 @@ module _ (core : Core) (memory : List ℕ) where
       (more 7 _ _ _ _ (λ e. omega arith) (range-means core)
       (more 9 _ _ _ _ (λ e. omega arith) (clock-means (core .clock .0) b) no-more)))
 
-  pub step-mean : Mean
+  pub step-mean : MeanAll
       ((1, wrongLength (length memory))
       ∷ (8, not (isGoing (core .stop)))
       ∷ (7, not (dueOne core))
@@ -151,7 +151,7 @@ module _ (core : Core) (memory : List ℕ) where
       (more 7 _ _ _ _ (λ e. omega arith) (one-means core)
       (more 9 _ _ _ _ (λ e. omega arith) (clock-means (core .clock .0) 4) no-more)))
 
-  pub view-mean : Mean ((7, not (dueOne core)) ∷ []) (viewNumbers core)
+  pub view-mean : MeanAll ((7, not (dueOne core)) ∷ []) (viewNumbers core)
   view-mean = more 7 _ _ _ _ (λ e. omega arith) (one-means core) no-more
 
 pub numbers-exactly : NumbersExactly

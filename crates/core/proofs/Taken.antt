@@ -10,7 +10,7 @@ use native.Mathlib.Nat.{zero-add, add-zero}
 use borrow.Author.Tests.{eq-eqb, le-ltb, not-false}
 use lib.ListN.{length}
 use Rattle.refusals.specs.Refusals.{firstNumber}
-use Rattle.refusals.specs.Theorems.{Taken}
+use Rattle.refusals.specs.Theorems.{NoneApplies}
 use Rattle.refusals.proofs.First.{none-found, none-applies}
 use Rattle.effects.specs.declared.Stop.the-variants.{Going}
 use Rattle.effects.specs.Hidden.{noHidden}
@@ -33,7 +33,7 @@ use Rattle.core.proofs.Endings.{letter, budget, clock-moves}
 pub reply-own : (number : ℕ) (core : Core) (memory : List ℕ) (reply : Reply) → number ≡ 0 → unless number core memory reply ≡ reply
 reply-own number core memory reply e = rw (eq-eqb number 0 e)
 
-module _ (core : Core) (memory : List ℕ) (b : ℕ) (taken : Taken (runNumbers b core memory)) where
+module _ (core : Core) (memory : List ℕ) (b : ℕ) (taken : NoneApplies (runNumbers b core memory)) where
   pub no-run-number : runNumber (length memory) (core .stop) (dueInRange core) (core .clock .0) b ≡ 0
   unfolding runNumber
   no-run-number = none-found _ (runNumbers b core memory) (run-mean core memory b) taken
@@ -95,7 +95,7 @@ cycle-exactly core memory = (
 )
 
 -- a step asks for more than a run of its instruction's cost
-module _ (core : Core) (memory : List ℕ) (taken : Taken (stepNumbers core memory)) where
+module _ (core : Core) (memory : List ℕ) (taken : NoneApplies (stepNumbers core memory)) where
   no-step-number : stepNumber (length memory) (core .stop) (dueOne core) (core .clock .0) ≡ 0
   unfolding stepNumber runNumber
   no-step-number = none-found _ (stepNumbers core memory) (step-mean core memory) taken

@@ -7,7 +7,7 @@ use mathlib.Core.Bool.{false}
 use mathlib.Core.List.{List, [], _∷_}
 use Prim.Native.Nat.{ℕ, _+_, _≤_, _<_}
 use lib.ListN.{length}
-use Rattle.refusals.specs.Theorems.{First, Taken}
+use Rattle.refusals.specs.Theorems.{First, NoneApplies}
 use Rattle.listing.specs.Answers as listing
 use Rattle.listing.specs.Listing.{listingAnswer, listingMemory}
 use Rattle.effects.specs.declared.Stop.the-variants.{Going, Halted, Undefined}
@@ -92,7 +92,7 @@ Letter end core =
 -- as `run-taken`)
 abbrev pub RunTaken : Type 0
 RunTaken =
-    (core : Core) (memory : List ℕ) (b : ℕ) → Taken (runNumbers b core memory)
+    (core : Core) (memory : List ℕ) (b : ℕ) → NoneApplies (runNumbers b core memory)
     → (used : ℕ)
     × (finished : ℕ)
     × (end : End)
@@ -106,7 +106,7 @@ RunTaken =
 -- same core and memory; cycles and instructions add up (proved as `run-again`)
 abbrev pub RunAgain : Type 0
 RunAgain =
-    (core : Core) (memory : List ℕ) (i j : ℕ) → Taken (runNumbers (i + j) core memory)
+    (core : Core) (memory : List ℕ) (i j : ℕ) → NoneApplies (runNumbers (i + j) core memory)
     → let first : Reply = run i core memory in
     let second : Reply = run j (first .core) (first .memory) in
     let whole : Reply = run (i + j) core memory in
@@ -131,7 +131,7 @@ abbrev pub CycleExactly : Type 0
 CycleExactly =
     (core : Core) (memory : List ℕ)
     → (core .clock .0 < 4294967295 → cycleOf memory core ≡ dueCycle memory core)
-    × (Taken (runNumbers 1 core memory)
+    × (NoneApplies (runNumbers 1 core memory)
     → run 1 core memory ≡ ranReply (transitionOn (cycleOf memory core) (starting core memory)))
     × ((4294967295 ≤ core .clock .0) ⊎ ((core .due < 1) ⊎ (4 < core .due))
     → cycleOf memory core ≡ record { core = core; finished = false; store = Nothing })
@@ -140,7 +140,7 @@ CycleExactly =
 -- of just that cost, but that the 'hidden registers become zero' (proved as `step-taken`)
 abbrev pub StepTaken : Type 0
 StepTaken =
-    (core : Core) (memory : List ℕ) → Taken (stepNumbers core memory)
+    (core : Core) (memory : List ℕ) → NoneApplies (stepNumbers core memory)
     → let asRun : Reply = run (takes memory (visibleOf core)) core memory in
     (end : End)
     × (step core memory .answer ≡ ran (takes memory (visibleOf core)) 1 end)
@@ -156,13 +156,13 @@ StepTaken =
 abbrev pub OthersTaken : Type 0
 OthersTaken =
     (core : Core) (memory text : List ℕ)
-    → (Taken (loadNumbers core memory)
+    → (NoneApplies (loadNumbers core memory)
     → ((count : ℕ) → listingAnswer text (length memory) ≡ listing.stored count → load text core memory .answer ≡ stored count)
     × ((number offset : ℕ) → listingAnswer text (length memory) ≡ listing.refused number offset
     → load text core memory .answer ≡ refusedAt number offset)
     × (load text core memory .memory ≡ listingMemory text memory)
     × (load text core memory .core ≡ core))
-    × (Taken (viewNumbers core)
+    × (NoneApplies (viewNumbers core)
     → (view core memory .answer ≡ viewed (visibleOf core) 1 (core .clock .0))
     × (view core memory .memory ≡ memory)
     × (view core memory .core ≡ core))

@@ -7,7 +7,7 @@ use Prim.Native.Nat.{ℕ, _+_, _≤_}
 use lib.ListN.{length}
 use Rattle.effects.specs.declared.Stop.the-variants.{Going}
 use Rattle.core.specs.Calls.{Reply, run, step}
-use Rattle.refusals.specs.Theorems.{Taken}
+use Rattle.refusals.specs.Theorems.{NoneApplies}
 use Rattle.core.specs.TheoremsOfCalls.{runNumbers}
 use Rattle.core.specs.declared.Core.{Core}
 use Rattle.r8.specs.Numbers.{registersOf, stateOf, coreOf, isCore}
@@ -53,6 +53,6 @@ RunInPieces =
     → let core : Core = coreOf (x .registers) (x .state) in
     let pieces : Slices = called (run j) (called (run i) x .1) .1 in
     let whole : Slices = called (run (i + j)) x .1 in
-    Taken (runNumbers (i + j) core (x .memory))
+    NoneApplies (runNumbers (i + j) core (x .memory))
     → run i core (x .memory) .core .stop ≡ Going
     → (pieces .registers ≡ whole .registers) × (pieces .state ≡ whole .state) × (pieces .memory ≡ whole .memory)

@@ -7,8 +7,9 @@ use Prim.Native.Nat.{ℕ, suc, _<_}
 use native.Mathlib.Omega.{arith}
 use borrow.Author.Tests.{ltb-true, eqb-true, eqb-false, lt-ltb}
 use lib.Dec.{eqb, ltb}
-use Rattle.refusals.specs.Refusals.{refusalNumber, firstNumber, verdictNumber, firstAfter}
-use Rattle.refusals.specs.Theorems.{First, Taken, Means, Mean, LengthExactly, FirstExactly}
+use Rattle.refusals.specs.Refusals.{refusalNumber, firstNumber, orElse}
+use Rattle.refusals.specs.Verdicts.{verdictNumber, firstAfter}
+use Rattle.refusals.specs.Theorems.{First, NoneApplies, Means, MeanAll, LengthExactly, FirstExactly}
 use Rattle.refusals.specs.declared.Verdict.{Verdict}
 use Rattle.refusals.specs.declared.Verdict.the-variants as verdict
 use Rattle.refusals.specs.declared.Refusal.{Refusal}
@@ -34,7 +35,7 @@ one n k m false P tests numbers same nonzero means rest = (λ h. inr (means .1 r
     from (inr h) = rest .1 (h .1)
 
 pub first-exactly : FirstExactly
-unfolding firstNumber Mean
+unfolding firstNumber MeanAll
 first-exactly [] [] mean n = (λ h. h .1 (sym (h .0)), λ z. absurd z)
 first-exactly [] (y ∷ numbers) mean n = absurd mean
 first-exactly (x ∷ tests) [] mean n = absurd mean
@@ -42,17 +43,17 @@ first-exactly (x ∷ tests) (y ∷ numbers) (same, nonzero, means, mean) n =
     one n (x .0) (y .0) (x .1) (y .1) tests numbers same nonzero means (first-exactly tests numbers mean n)
 
 -- no tests mean no statements; and one test more, that means a statement
-pub no-more : Mean [] []
-unfolding Mean
+pub no-more : MeanAll [] []
+unfolding MeanAll
 no-more = tt
 
 pub more : (k : ℕ) (test : Bool) (P : Type 0) (tests : List (ℕ × Bool)) (numbers : List (ℕ × Type 0)) → (k ≡ 0 → ⊥) → Means test P
-    → Mean tests numbers → Mean ((k, test) ∷ tests) ((k, P) ∷ numbers)
-unfolding Mean
+    → MeanAll tests numbers → MeanAll ((k, test) ∷ tests) ((k, P) ∷ numbers)
+unfolding MeanAll
 more k test P tests numbers nonzero means rest = (refl, nonzero, means, rest)
 
 -- where no number applies, tests find none
-pub none-found : (tests : List (ℕ × Bool)) (numbers : List (ℕ × Type 0)) → Mean tests numbers → Taken numbers → firstNumber tests ≡ 0
+pub none-found : (tests : List (ℕ × Bool)) (numbers : List (ℕ × Type 0)) → MeanAll tests numbers → NoneApplies numbers → firstNumber tests ≡ 0
 none-found tests numbers mean none = by (eqb (firstNumber tests) 0) refl
   where
     by : (b : Bool) → eqb (firstNumber tests) 0 ≡ b → firstNumber tests ≡ 0
@@ -75,6 +76,17 @@ passed n applies rest e = ap (λ (b : Bool). cond b n (firstNumber rest)) e
 pub none-left : firstNumber [] ≡ 0
 unfolding firstNumber
 none-left = refl
+
+-- one refusal more, in a chain and in a list
+pub asked : (v : Verdict) (why : Refusal) (applies : Bool) (r : Verdict) → r ≡ orElse v why applies → (rest : List (ℕ × Bool))
+    → firstAfter r rest ≡ firstAfter v ((refusalNumber why, applies) ∷ rest)
+unfolding firstNumber
+asked v why applies r e rest = ap (λ (x : Verdict). firstAfter x rest) e ∙ by v applies
+  where
+    by : (v : Verdict) (applies : Bool) → firstAfter (orElse v why applies) rest ≡ firstAfter v ((refusalNumber why, applies) ∷ rest)
+    by verdict.Taken true = refl
+    by verdict.Taken false = refl
+    by (verdict.Refused found) applies = refl
 
 -- a verdict with no more to ask
 pub asked-all : (v : Verdict) → verdictNumber v ≡ firstAfter v []

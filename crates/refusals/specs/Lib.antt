@@ -1,3 +1,4 @@
--- What the contracts of `refusals` cite, and the theorem about it.
+-- What the contracts of `refusals` cite, and the theorems about it.
 pub mod Refusals
 pub mod Theorems
+pub mod Verdicts

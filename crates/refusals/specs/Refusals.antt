@@ -1,6 +1,6 @@
 -- Document 01, 'Numbers from the input' and 'Numbers from the state': why a call is refused before it starts, by its number, and the first
 -- number that applies.
-use mathlib.Core.Bool.{Bool, true, cond}
+use mathlib.Core.Bool.{Bool, true, false, cond}
 use mathlib.Core.List.{List, [], _∷_}
 use Prim.Native.Nat.{ℕ}
 use lib.Dec.{eqb, ltb}
@@ -27,12 +27,8 @@ unfoldable pub firstNumber : List (ℕ × Bool) → ℕ
 firstNumber [] = 0
 firstNumber (x ∷ rest) = cond (x .1) (x .0) (firstNumber rest)
 
--- what is found before a call starts; 0 where it is taken
-abbrev pub verdictNumber : Verdict → ℕ
-verdictNumber Taken = 0
-verdictNumber (Refused why) = refusalNumber why
-
--- and with more to ask, where nothing was found so far
-abbrev pub firstAfter : Verdict → List (ℕ × Bool) → ℕ
-firstAfter Taken rest = firstNumber rest
-firstAfter (Refused why) rest = refusalNumber why
+-- what is found before a call starts, and one refusal more to ask for: it is found where it applies and none was found before
+abbrev pub orElse : Verdict → Refusal → Bool → Verdict
+orElse Taken why true = Refused why
+orElse Taken why false = Taken
+orElse (Refused found) why applies = Refused found

@@ -6,13 +6,14 @@ use mathlib.Core.List.{List, [], _∷_}
 use Prim.Native.Nat.{ℕ, _<_}
 use Rattle.refusals.specs.Refusals.{wrongLength, firstNumber}
 
--- of some numbers in their order, n is the first that applies; and none does: the call is taken
+-- of some numbers in their order, n is the first that applies; and none does: the call is taken (a load then comes to its
+-- lines, which may still refuse it)
 abbrev pub First : ℕ → List (ℕ × Type 0) → Type 0
 First n [] = ⊥
 First n (x ∷ rest) = ((x .1) × (n ≡ x .0)) ⊎ ((x .1 → ⊥) × First n rest)
 
-abbrev pub Taken : List (ℕ × Type 0) → Type 0
-Taken numbers = (n : ℕ) → First n numbers → ⊥
+abbrev pub NoneApplies : List (ℕ × Type 0) → Type 0
+NoneApplies numbers = (n : ℕ) → First n numbers → ⊥
 
 -- a test means a statement
 abbrev pub Means : Bool → Type 0 → Type 0
@@ -23,14 +24,14 @@ abbrev pub LengthExactly : Type 0
 LengthExactly = (L : ℕ) → Means (wrongLength L) ((L ≡ 0) ⊎ (65536 < L))
 
 -- tests mean statements, in the same order and with the same numbers, none of them 0
-unfoldable pub Mean : List (ℕ × Bool) → List (ℕ × Type 0) → Type 0
-Mean [] [] = Unit
-Mean [] (y ∷ numbers) = ⊥
-Mean (x ∷ tests) [] = ⊥
-Mean (x ∷ tests) (y ∷ numbers) = (x .0 ≡ y .0) × (y .0 ≡ 0 → ⊥) × Means (x .1) (y .1) × Mean tests numbers
+unfoldable pub MeanAll : List (ℕ × Bool) → List (ℕ × Type 0) → Type 0
+MeanAll [] [] = Unit
+MeanAll [] (y ∷ numbers) = ⊥
+MeanAll (x ∷ tests) [] = ⊥
+MeanAll (x ∷ tests) (y ∷ numbers) = (x .0 ≡ y .0) × (y .0 ≡ 0 → ⊥) × Means (x .1) (y .1) × MeanAll tests numbers
 
 -- the number that tests find is the first that applies of what they mean (proved as `first-exactly`)
 abbrev pub FirstExactly : Type 1
 FirstExactly =
-    (tests : List (ℕ × Bool)) (numbers : List (ℕ × Type 0)) → Mean tests numbers
+    (tests : List (ℕ × Bool)) (numbers : List (ℕ × Type 0)) → MeanAll tests numbers
     → (n : ℕ) → ((firstNumber tests ≡ n) × (n ≡ 0 → ⊥)) ↔ First n numbers

@@ -1,9 +1,7 @@
 // Why a call is refused before it starts, the number of each refusal, and the first that applies.
 ghost use mathlib.Core.Path.{_≡_};
-ghost use mathlib.Core.Bool.{Bool};
-ghost use mathlib.Core.List.{List, _∷_};
-ghost use Prim.Native.Nat.{ℕ};
-ghost use Rattle.refusals.specs.Refusals.{refusalNumber, wrongLength, firstNumber, firstAfter};
+ghost use Rattle.refusals.specs.Refusals.{refusalNumber, wrongLength, orElse};
+ghost use Rattle.refusals.specs.declared.Verdict.the-variants.{Taken};
 
 // Numbers 1, 7, 8 and 9.
 pub enum Refusal {
@@ -43,7 +41,7 @@ pub fn wrong_length(length: usize) -> bool
 impl Verdict {
     // One refusal more to ask for: it is found where it applies and none was found before. A chain of these is a call's order.
     pub fn or(self, why: Refusal, applies: bool) -> Verdict
-        ensures { λ r. ⌜ ((rest : List (ℕ × Bool)) → firstAfter r rest ≡ firstAfter self ((refusalNumber why, applies) ∷ rest)) ⌝ }
+        ensures { λ r. ⌜ r ≡ orElse self why applies ⌝ }
     {
         match self {
             Verdict::Taken => found(why, applies),
@@ -53,7 +51,7 @@ impl Verdict {
 }
 
 fn found(why: Refusal, applies: bool) -> Verdict
-    ensures { λ r. ⌜ ((rest : List (ℕ × Bool)) → firstAfter r rest ≡ firstNumber ((refusalNumber why, applies) ∷ rest)) ⌝ }
+    ensures { λ r. ⌜ r ≡ orElse Taken why applies ⌝ }
 {
     if applies {
         return Verdict::Refused(why);

@@ -4,7 +4,9 @@ use mathlib.Core.Bool.{Bool, not}
 use mathlib.Core.List.{[], _∷_}
 use borrow.Author.Needs.{needs}
 use Rattle.refusals.specs.Refusals.{firstNumber}
-use Rattle.refusals.proofs.First.{asked-all}
+use Rattle.refusals.specs.declared.Refusal.the-variants.{WrongLength, WrongCycle}
+use Rattle.refusals.specs.declared.Verdict.the-variants.{Taken}
+use Rattle.refusals.proofs.First.{asked, asked-all}
 use Rattle.core.specs.Numbers.{loadNumber}
 use Rattle.core.proofs.load_verdict.Statement.{statement}
 use Rattle.core.proofs.load_verdict.Tie as tie
@@ -13,10 +15,11 @@ returns : tie.Need-returns
 unfolding loadNumber
 returns c =
     let ready = c .before .before .before .args .ready in
+    let length = c .before .before .wrong-length in
     asked-all (c .or2 .result)
-    ∙ c .or2 .ensures []
-    ∙ c .before .or .ensures ((7, not ready) ∷ [])
-    ∙ ap (λ (wrong : Bool). firstNumber ((1, wrong) ∷ (7, not ready) ∷ [])) (c .before .before .wrong-length .ensures)
+    ∙ asked (c .before .or .result) WrongCycle (not ready) _ (c .or2 .ensures) []
+    ∙ asked Taken WrongLength (length .result) _ (c .before .or .ensures) ((7, not ready) ∷ [])
+    ∙ ap (λ (wrong : Bool). firstNumber ((1, wrong) ∷ (7, not ready) ∷ [])) (length .ensures)
 
 pub load-verdict-spec : {M : Type 1} → statement M
 load-verdict-spec = tie.close (tie.spec (λ c κs. search needs) (λ c κs. search needs) (λ c κs. search needs) returns)

@@ -4,7 +4,7 @@ use borrow.Author.Needs.{needs}
 use lib.ListN.{length}
 use Rattle.core.specs.Numbers.{loadNumber}
 use Rattle.core.specs.Calls.{loadAnswer, loadedReply, load}
-use Rattle.refusals.specs.Refusals.{verdictNumber}
+use Rattle.refusals.specs.Verdicts.{verdictNumber}
 use Rattle.core.proofs.Taken.{reply-own}
 use Rattle.core.proofs.Replies.{refused-reply}
 use Rattle.core.proofs.Core.load.Statement.{statement}

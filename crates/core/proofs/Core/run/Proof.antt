@@ -11,7 +11,7 @@ use Rattle.core.specs.Spent.{dueInRange}
 use Rattle.core.specs.Numbers.{runNumber}
 use Rattle.core.specs.Progress.{Progress, cyclesOn}
 use Rattle.core.specs.Calls.{Reply, ranReply, run}
-use Rattle.refusals.specs.Refusals.{verdictNumber}
+use Rattle.refusals.specs.Verdicts.{verdictNumber}
 use Rattle.core.specs.WholeInstructions.{reached}
 use Rattle.core.specs.declared.Core.{Core}
 use Rattle.core.proofs.Refusals.{ready}

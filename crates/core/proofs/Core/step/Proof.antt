@@ -9,7 +9,7 @@ use Rattle.core.specs.Cores.{withHidden}
 use Rattle.core.specs.Spent.{dueOne}
 use Rattle.core.specs.Numbers.{longest, runNumber, stepNumber}
 use Rattle.core.specs.Calls.{ran, step, endOf}
-use Rattle.refusals.specs.Refusals.{verdictNumber}
+use Rattle.refusals.specs.Verdicts.{verdictNumber}
 use Rattle.core.proofs.Refusals.{ready}
 use Rattle.core.proofs.Replies.{refused-reply, step-starts}
 use Rattle.core.proofs.WholeInstructions.{just-one, as-step}

@@ -5,7 +5,7 @@ use borrow.Author.Needs.{needs}
 use Rattle.core.specs.Cores.{freshCore}
 use Rattle.core.specs.Numbers.{viewNumber}
 use Rattle.core.specs.Calls.{viewedReply, view}
-use Rattle.refusals.specs.Refusals.{verdictNumber}
+use Rattle.refusals.specs.Verdicts.{verdictNumber}
 use Rattle.core.specs.Answers.{viewAnswerOf, shown}
 use Rattle.core.proofs.Replies.{refused-reply, view-taken, one-when, other-when}
 use Rattle.core.proofs.Core.view.Statement.{statement}
