@@ -16,7 +16,7 @@ use Rattle.table.specs.Table.{kindOf}
 use Rattle.effects.specs.Cycles.{stopOf}
 use Rattle.effects.specs.declared.Stop as stop
 use Rattle.effects.specs.declared.Store.the-variants.{Nothing}
-use Rattle.core.specs.Datapath.{fetched, second, third, fourthEffect, withEffect, transition, idle, isLast, laterCycle, dueCycle, cycleOf}
+use Rattle.core.specs.Datapath.{fetched, second, third, fourthEffect, withEffect, transition, idle, isLast, laterCycle, dueCycle, cycleOrIdle}
 use Rattle.core.specs.Cores.{Visible}
 use Rattle.core.specs.Instruction.{wordDue, takes}
 use Rattle.core.specs.Numbers.{isGoing, longest}
@@ -53,13 +53,13 @@ module _ (M : List ℕ) (core : Core) where
   no-cycle-due kind n2 n3 n4 = rw (ne-eqb (core .due) 2 n2, ne-eqb (core .due) 3 n3, ne-eqb (core .due) 4 n4)
 
 -- within the clock a cycle is done
-pub within-clock : (M : List ℕ) (core : Core) → core .clock .0 < 4294967295 → cycleOf M core ≡ dueCycle M core
-unfolding cycleOf
+pub within-clock : (M : List ℕ) (core : Core) → core .clock .0 < 4294967295 → cycleOrIdle M core ≡ dueCycle M core
+unfolding cycleOrIdle
 within-clock M core h = rw (le-ltb 4294967295 (core .clock .0 + 1) (omega arith))
 
 -- and with the clock full none
-pub full-clock : (M : List ℕ) (core : Core) → 4294967295 ≤ core .clock .0 → cycleOf M core ≡ idle core
-unfolding cycleOf
+pub full-clock : (M : List ℕ) (core : Core) → 4294967295 ≤ core .clock .0 → cycleOrIdle M core ≡ idle core
+unfolding cycleOrIdle
 full-clock M core h = rw (lt-ltb 4294967295 (core .clock .0 + 1) (omega arith))
 
 -- cycle 2 itself leaves the clock, and the cycle due

@@ -31,7 +31,7 @@ use Rattle.core.specs.Spent.{dueOne}
 use Rattle.core.specs.Datapath.{fetched, latched, second, third, fourthEffect, withEffect, ticked, transition, isLast, laterCycle, dueCycle}
 use Rattle.core.specs.Instruction.{wordDue, past, effectOf, after, memoryAfter, takes, resultOf, coreAfter}
 use Rattle.core.specs.Numbers.{isGoing}
-use Rattle.core.specs.Progress.{Progress, transitionOn, cycleOn, cyclesOn, pastOne}
+use Rattle.core.specs.Progress.{Progress, afterCycle, cycleOn, cyclesOn, instructionOn}
 use Rattle.core.specs.Theorems.{Midway, OneInstruction}
 use Rattle.core.specs.declared.Core.{Core}
 use Rattle.core.proofs.Spent.{due-when-one}
@@ -46,8 +46,8 @@ pub record Finished (p q : Progress) : Type 0 where
   pub used : q .used ≡ p .used + takes (p .memory) (visibleOf (p .core))
   pub finished : q .finished ≡ p .finished + 1
 
-parts : (p q : Progress) → q ≡ pastOne p → Finished p q
-unfolding pastOne coreAfter
+parts : (p q : Progress) → q ≡ instructionOn p → Finished p q
+unfolding instructionOn coreAfter
 parts p q e =
     record {
       visible = ap (λ (q : Progress). visibleOf (q .core)) e;
@@ -137,23 +137,23 @@ module _ (M : List ℕ) (c : Core) (u f : ℕ) where
 
   advance2 : (last : Bool) (next : Core)
       → isLast (kind M c) (after1 M c) ≡ last → second (stopOf (kind M c)) (kind M c) (after1 M c) ≡ next
-      → cycleOn (at (after1 M c) M u f) ≡ transitionOn (transition last next Nothing) (at (after1 M c) M u f)
+      → cycleOn (at (after1 M c) M u f) ≡ afterCycle (transition last next Nothing) (at (after1 M c) M u f)
   unfolding cycleOn dueCycle laterCycle
-  advance2 last next e n = λ j. transitionOn (transition (e j) (n j) Nothing) (at (after1 M c) M u f)
+  advance2 last next e n = λ j. afterCycle (transition (e j) (n j) Nothing) (at (after1 M c) M u f)
 
   advance3 : (last : Bool) → isLast (kind M c) (after2 M c) ≡ last
-      → cycleOn (at (after2 M c) M u f) ≡ transitionOn (transition last (third (kind M c) (after2 M c)) Nothing) (at (after2 M c) M u f)
+      → cycleOn (at (after2 M c) M u f) ≡ afterCycle (transition last (third (kind M c) (after2 M c)) Nothing) (at (after2 M c) M u f)
   unfolding cycleOn dueCycle laterCycle
-  advance3 last e = λ j. transitionOn (transition (e j) (third (kind M c) (after2 M c)) Nothing) (at (after2 M c) M u f)
+  advance3 last e = λ j. afterCycle (transition (e j) (third (kind M c) (after2 M c)) Nothing) (at (after2 M c) M u f)
 
   advance4 : isLast (kind M c) (after3 M c) ≡ true
       → cycleOn (at (after3 M c) M u f)
-      ≡ transitionOn
+      ≡ afterCycle
       (transition true (withEffect (fourthEffect (kind M c) M (after3 M c)) (after3 M c)) (fourthEffect (kind M c) M (after3 M c) .store))
       (at (after3 M c) M u f)
   unfolding cycleOn dueCycle laterCycle
   advance4 e =
-      λ j. transitionOn
+      λ j. afterCycle
       (transition (e j) (withEffect (fourthEffect (kind M c) M (after3 M c)) (after3 M c)) (fourthEffect (kind M c) M (after3 M c) .store))
       (at (after3 M c) M u f)
 
@@ -306,8 +306,8 @@ same-rt w v effect e =
 -- the cycles of an instruction come to what it leaves, all of it: by its class
 module _ (M : List ℕ) (c : Core) (u f : ℕ) where
   stop-class : classOf (kind M c) (c .flags) ≡ Stop → Classes Stop M c
-      → cyclesOn (takes M (visibleOf (ready c))) (at (ready c) M u f) ≡ pastOne (at (ready c) M u f)
-  unfolding pastOne coreAfter
+      → cyclesOn (takes M (visibleOf (ready c))) (at (ready c) M u f) ≡ instructionOn (at (ready c) M u f)
+  unfolding instructionOn coreAfter
   stop-class e a =
       let cost = cost-at M c Stop e in
       let v = visibleOf (ready c) in
@@ -327,8 +327,8 @@ module _ (M : List ℕ) (c : Core) (u f : ℕ) where
       ∙ (λ j. at (withClock (clock j) (withDue 1 (withHidden (withRalu (ralu j) (withRaRb (ra j) (rb j) (holding M c))) (withVisible (seen j) c)))) (memory j) (used j) (finished j))
 
   short-class : classOf (kind M c) (c .flags) ≡ Short → Classes Short M c
-      → cyclesOn (takes M (visibleOf (ready c))) (at (ready c) M u f) ≡ pastOne (at (ready c) M u f)
-  unfolding pastOne coreAfter
+      → cyclesOn (takes M (visibleOf (ready c))) (at (ready c) M u f) ≡ instructionOn (at (ready c) M u f)
+  unfolding instructionOn coreAfter
   short-class e a =
       let cost = cost-at M c Short e in
       let v = visibleOf (ready c) in
@@ -349,8 +349,8 @@ module _ (M : List ℕ) (c : Core) (u f : ℕ) where
       ∙ (λ j. at (withClock (clock j) (withDue 1 (withHidden (withRalu (resultOf (word M c) (ready c)) (withRaRb (ra j) (rb j) (holding M c))) (withVisible (seen j) c)))) (memory j) (used j) (finished j))
 
   full-class : classOf (kind M c) (c .flags) ≡ Full → Classes Full M c
-      → cyclesOn (takes M (visibleOf (ready c))) (at (ready c) M u f) ≡ pastOne (at (ready c) M u f)
-  unfolding pastOne coreAfter
+      → cyclesOn (takes M (visibleOf (ready c))) (at (ready c) M u f) ≡ instructionOn (at (ready c) M u f)
+  unfolding instructionOn coreAfter
   full-class e a =
       let cost = cost-at M c Full e in
       let v = visibleOf (ready c) in
@@ -371,7 +371,7 @@ module _ (M : List ℕ) (c : Core) (u f : ℕ) where
 abbrev Claim : Progress → Type 0
 Claim p =
     ((i : ℕ) → i < takes (p .memory) (visibleOf (p .core)) → Midway i p (cyclesOn i p))
-    × (cyclesOn (takes (p .memory) (visibleOf (p .core))) p ≡ pastOne p)
+    × (cyclesOn (takes (p .memory) (visibleOf (p .core))) p ≡ instructionOn p)
 
 claim : (M : List ℕ) (c : Core) (u f : ℕ) → Claim (at (ready c) M u f)
 claim M c u f = by (classOf (kind M c) (c .flags)) refl (classes M c)

@@ -23,7 +23,7 @@ use Rattle.core.specs.Progress.{starting, cyclesOn}
 use Rattle.core.specs.Calls.{Answer, refusedAt, stored, ran, viewed, refused, Reply, unless, loadAnswer, loadedReply, viewedReply, ranReply, steppedReply, reset, load, view, run, step}
 use Rattle.core.specs.TheoremsOfCalls.{loadNumbers, runNumbers, stepNumbers, viewNumbers, NumbersExactly, RefusalsUnchanged}
 use Rattle.core.specs.Cores.{Visible, visibleOf}
-use Rattle.core.specs.Instruction.{takes, instructionEngine}
+use Rattle.core.specs.Instruction.{takes, stepTransition}
 use Rattle.core.specs.declared.Core.{Core}
 use Rattle.core.specs.declared.End.{End}
 use Rattle.core.proofs.Spent.{due-when-one, one-when-due}
@@ -195,6 +195,6 @@ refusals-unchanged core memory n offset b text = (
   unchanged n (runNumber (length memory) (core .stop) (dueInRange core) (core .clock .0) b) core memory
       (ranReply (cyclesOn b (starting core memory))) (ran-never n _ _ _),
   unchanged n (stepNumber (length memory) (core .stop) (dueOne core) (core .clock .0)) core memory
-      (steppedReply (takes memory (visibleOf core)) (instructionEngine memory core) memory) (ran-never n _ _ _),
+      (steppedReply (takes memory (visibleOf core)) (stepTransition memory core) memory) (ran-never n _ _ _),
   unchanged n (viewNumber (dueOne core)) core memory (viewedReply core memory) (viewed-never n _ _ _),
 )

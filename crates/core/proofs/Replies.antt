@@ -15,7 +15,7 @@ use Rattle.effects.specs.Effect.{applied}
 use Rattle.effects.specs.declared.Store.{Store}
 use Rattle.effects.specs.declared.Store.the-variants.{Nothing, Word}
 use Rattle.core.specs.Cores.{visibleOf}
-use Rattle.core.specs.Instruction.{takes, instructionEngine}
+use Rattle.core.specs.Instruction.{takes, stepTransition}
 use Rattle.core.specs.Spent.{dueOne, dueInRange}
 use Rattle.core.specs.Numbers.{runNumber, stepNumber, viewNumber}
 use Rattle.core.specs.Progress.{Progress, starting, cyclesOn}
@@ -42,10 +42,10 @@ run-starts b core memory e =
     ∙ ap (λ (n : ℕ). ranReply (cyclesOn n (starting core memory))) (omega arith)
 
 pub step-starts : (core : Core) (memory : List ℕ) → runNumber (length memory) (core .stop) (dueOne core) (core .clock .0) 4 ≡ 0
-    → step core memory ≡ steppedReply (takes memory (visibleOf core)) (instructionEngine memory core) memory
+    → step core memory ≡ steppedReply (takes memory (visibleOf core)) (stepTransition memory core) memory
 unfolding step stepNumber
 step-starts core memory e =
-    reply-own _ core memory (steppedReply (takes memory (visibleOf core)) (instructionEngine memory core) memory) e
+    reply-own _ core memory (steppedReply (takes memory (visibleOf core)) (stepTransition memory core) memory) e
 
 -- a run that has done its cycles
 pub run-over : (b : ℕ) (p : Progress) → b ≤ p .used → cyclesOn (b - p .used) p ≡ p

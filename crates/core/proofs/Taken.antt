@@ -16,10 +16,10 @@ use Rattle.effects.specs.declared.Stop.the-variants.{Going}
 use Rattle.effects.specs.Hidden.{noHidden}
 use Rattle.core.specs.Cores.{withHidden, visibleOf}
 use Rattle.core.specs.Spent.{dueOne, dueInRange}
-use Rattle.core.specs.Instruction.{after, memoryAfter, takes, coreAfter, instructionEngine}
-use Rattle.core.specs.Datapath.{idle, dueCycle, cycleOf}
+use Rattle.core.specs.Instruction.{after, memoryAfter, takes, coreAfter, stepTransition}
+use Rattle.core.specs.Datapath.{idle, dueCycle, cycleOrIdle}
 use Rattle.core.specs.Numbers.{isGoing, clockFull, loadNumber, runNumber, stepNumber, viewNumber}
-use Rattle.core.specs.Progress.{Progress, starting, transitionOn, cycleOn, cyclesOn, pastOne}
+use Rattle.core.specs.Progress.{Progress, starting, afterCycle, cycleOn, cyclesOn, instructionOn}
 use Rattle.core.specs.Calls.{ran, viewed, endOf, Reply, unless, loadAnswer, loadedReply, viewedReply, ranReply, steppedReply, reset, load, view, run, step}
 use Rattle.core.specs.TheoremsOfCalls.{loadNumbers, runNumbers, stepNumbers, viewNumbers, RunTaken, CycleExactly, StepTaken, OthersTaken}
 use Rattle.core.specs.declared.Core.{Core}
@@ -71,8 +71,8 @@ none-due core memory (inr high) =
     ∙ no-cycle-due memory core _ (λ e. omega arith) (λ e. omega arith) (λ e. omega arith)
 
 none-done : (core : Core) (memory : List ℕ) → (4294967295 ≤ core .clock .0) ⊎ ((core .due < 1) ⊎ (4 < core .due))
-    → cycleOf memory core ≡ idle core
-unfolding cycleOf
+    → cycleOrIdle memory core ≡ idle core
+unfolding cycleOrIdle
 none-done core memory (inl full) = full-clock memory core full
 none-done core memory (inr out) =
     ap (cond (clockFull (core .clock .0) 1) (idle core)) (none-due core memory out) ∙ by (clockFull (core .clock .0) 1)
@@ -90,7 +90,7 @@ cycle-exactly core memory = (
       let room = r .room in
       run-own core memory 1 taken
       ∙ ap ranReply (one-more 0 (starting core memory) (r .going) ∙ no-cycle (cycleOn (starting core memory)))
-      ∙ ap (λ (t : Transition). ranReply (transitionOn t (starting core memory))) (sym (within-clock memory core (omega arith))),
+      ∙ ap (λ (t : Transition). ranReply (afterCycle t (starting core memory))) (sym (within-clock memory core (omega arith))),
   λ out. none-done core memory out,
 )
 
@@ -100,9 +100,9 @@ module _ (core : Core) (memory : List ℕ) (taken : NoneApplies (stepNumbers cor
   unfolding stepNumber runNumber
   no-step-number = none-found _ (stepNumbers core memory) (step-mean core memory) taken
 
-  step-own : step core memory ≡ steppedReply (takes memory (visibleOf core)) (instructionEngine memory core) memory
+  step-own : step core memory ≡ steppedReply (takes memory (visibleOf core)) (stepTransition memory core) memory
   unfolding step
-  step-own = reply-own _ core memory (steppedReply (takes memory (visibleOf core)) (instructionEngine memory core) memory) no-step-number
+  step-own = reply-own _ core memory (steppedReply (takes memory (visibleOf core)) (stepTransition memory core) memory) no-step-number
 
   step-ready : Ready (length memory) (core .stop) (dueOne core) (core .clock .0) 4
   unfolding stepNumber
@@ -130,7 +130,7 @@ module _ (core : Core) (memory : List ℕ) (taken : NoneApplies (stepNumbers cor
   run-of-cost = reply-own _ core memory (ranReply (cyclesOn (takes memory (visibleOf core)) (starting core memory))) no-run-number-of-cost
 
 pub step-taken : StepTaken
-unfolding instructionEngine memoryAfter pastOne coreAfter
+unfolding stepTransition memoryAfter instructionOn coreAfter
 step-taken core memory taken =
     let v = visibleOf core in
     let whole = one-instruction (starting core memory) (step-going core memory taken) (step-due core memory taken) .1 in
@@ -143,11 +143,11 @@ step-taken core memory taken =
     let visible = f .visible in
     let one = f .due in
     let due = due-when-one (q .core) one in
-    let answer : ranReply q .answer ≡ steppedReply (takes memory v) (instructionEngine memory core) memory .answer =
+    let answer : ranReply q .answer ≡ steppedReply (takes memory v) (stepTransition memory core) memory .answer =
     λ j. ran (cycles j) (finished j) (endOf (visible j .stop) (one j)) in (
       endOf (after memory v .stop) true,
       ap (λ (r : Reply). r .answer) stepped,
-      rw stepped (letter (instructionEngine memory core .core)),
+      rw stepped (letter (stepTransition memory core .core)),
       rw (ranned, stepped) answer,
       rw (ranned, stepped) (f .memory),
       rw ranned due,

@@ -18,12 +18,12 @@ use Rattle.effects.proofs.Theorems.{second-of}
 use Rattle.effects.specs.declared.Stop.{Stop}
 use Rattle.core.specs.Cores.{withHidden, withDue, withClock, Visible, visibleOf, register}
 use Rattle.core.specs.Spent.{dueInRange, dueOne}
-use Rattle.core.specs.Instruction.{wordDue, effectOf, after, memoryAfter, takes, coreAfter, instructionEngine}
+use Rattle.core.specs.Instruction.{wordDue, effectOf, after, memoryAfter, takes, coreAfter, stepTransition}
 use Rattle.core.specs.Datapath.{dueCycle}
 use Rattle.core.specs.Numbers.{isGoing, longest}
-use Rattle.core.specs.Progress.{Progress, starting, cycleOn, cyclesOn, pastOne}
+use Rattle.core.specs.Progress.{Progress, starting, cycleOn, cyclesOn, instructionOn}
 use Rattle.core.specs.Calls.{ran, endOf, steppedReply}
-use Rattle.core.specs.WholeInstructions.{seen, joined, beforeOf, workingAfter, doneOn, workingOn, bankOn, mayGoOn, instructionsOn, instructionsOrCycle}
+use Rattle.core.specs.WholeInstructions.{seen, joined, effectBeforeOf, workingAfter, doneOn, workingOn, bankOn, hasRoom, instructionsOn, instructionsOrCycle}
 use Rattle.core.specs.declared.Core.{Core}
 use Rattle.core.specs.declared.Working.{Working}
 use Rattle.core.proofs.Spent.{both, due-when-one}
@@ -42,7 +42,7 @@ core-after core one M regs s used =
     let done = doneOn M regs s in
     let due = due-when-one core one in
     let second = second-of (kindOf w) (fieldT w) (fieldB w) (register regs) in
-    let x = beforeOf s (register regs (fieldT w)) in
+    let x = effectBeforeOf s (register regs (fieldT w)) in
     let ralu = ap (λ (RB : ℕ). calculated (kindOf w) (withRaRb (register regs (fieldA w)) RB (withIr w (s .hidden))) x .value) second in
     let clock : core .clock .0 + (used + takes M (seen s regs)) ≡ core .clock .0 + used + takes M (seen s regs) = omega arith in
     λ j. withClock (clock j)
@@ -66,8 +66,8 @@ under core s regs M b count =
 pub past-one : (core : Core) → dueOne core ≡ true → (s s′ : Working) (regs regs′ M M′ : List ℕ) (b count count′ : ℕ)
     → s′ ≡ workingOn M regs s → regs′ ≡ bankOn M regs s → M′ ≡ memoryAfter M (seen s regs)
     → takes M (seen s regs) ≤ s .left .0 → s .left .0 ≤ b → count′ ≡ count + 1
-    → under core s′ regs′ M′ b count′ ≡ pastOne (under core s regs M b count)
-unfolding pastOne
+    → under core s′ regs′ M′ b count′ ≡ instructionOn (under core s regs M b count)
+unfolding instructionOn
 past-one core one s s′ regs regs′ M M′ b count count′ e r m fits most f =
     let used : b - s′ .left .0 ≡ (b - s .left .0) + takes M (seen s regs) = omega (arith, ap (λ (s : Working). s .left .0) e) in
     let after = (λ j. joined core (e j) (r j) (used j)) ∙ core-after core one M regs s (b - s .left .0) in
@@ -79,36 +79,36 @@ one-fails true y e = inr e
 one-fails false y e = inl refl
 
 -- what lets a whole instruction be executed; and the loop's test of it, which asks too whether one more is to be
-goes-on-when : (s : Stop) (left : ℕ) → mayGoOn s left ≡ true → (isGoing s ≡ true) × (longest ≤ left)
+goes-on-when : (s : Stop) (left : ℕ) → hasRoom s left ≡ true → (isGoing s ≡ true) × (longest ≤ left)
 goes-on-when s left e =
     let tests = both (isGoing s) (leb longest left) e in
     (tests .0, leb-true longest left (tests .1))
 
-pub one-asked : (s : Working) (more : ℕ) → cond (mayGoOn (s .stop) (s .left .0)) (ltb 0 more) false ≡ true
-    → (mayGoOn (s .stop) (s .left .0) ≡ true) × (longest ≤ s .left .0) × (0 < more)
+pub one-asked : (s : Working) (more : ℕ) → cond (hasRoom (s .stop) (s .left .0)) (ltb 0 more) false ≡ true
+    → (hasRoom (s .stop) (s .left .0) ≡ true) × (longest ≤ s .left .0) × (0 < more)
 one-asked s more e =
-    let tests = both (mayGoOn (s .stop) (s .left .0)) (ltb 0 more) e in
+    let tests = both (hasRoom (s .stop) (s .left .0)) (ltb 0 more) e in
     (tests .0, goes-on-when (s .stop) (s .left .0) (tests .0) .1, ltb-true 0 more (tests .1))
 
 -- one instruction more, and none
-pub next-one : (n b : ℕ) (p q : Progress) → mayGoOn (p .core .stop) (b - p .used) ≡ true → q ≡ pastOne p
+pub next-one : (n b : ℕ) (p q : Progress) → hasRoom (p .core .stop) (b - p .used) ≡ true → q ≡ instructionOn p
     → instructionsOn (suc n) b p ≡ instructionsOn n b q
 unfolding instructionsOn
 next-one n b p q g e =
-    ap (λ (goes : Bool). cond goes (instructionsOn n b (pastOne p)) p) g ∙ ap (instructionsOn n b) (sym e)
+    ap (λ (goes : Bool). cond goes (instructionsOn n b (instructionOn p)) p) g ∙ ap (instructionsOn n b) (sym e)
 
-no-next : (n b : ℕ) (p : Progress) → mayGoOn (p .core .stop) (b - p .used) ≡ false → instructionsOn n b p ≡ p
+no-next : (n b : ℕ) (p : Progress) → hasRoom (p .core .stop) (b - p .used) ≡ false → instructionsOn n b p ≡ p
 unfolding instructionsOn
 no-next zero b p g = refl
-no-next (suc n) b p g = ap (λ (goes : Bool). cond goes (instructionsOn n b (pastOne p)) p) g
+no-next (suc n) b p g = ap (λ (goes : Bool). cond goes (instructionsOn n b (instructionOn p)) p) g
 
-pub none-asked : (n b : ℕ) (p : Progress) → cond (mayGoOn (p .core .stop) (b - p .used)) (ltb 0 n) false ≡ false → instructionsOn n b p ≡ p
+pub none-asked : (n b : ℕ) (p : Progress) → cond (hasRoom (p .core .stop) (b - p .used)) (ltb 0 n) false ≡ false → instructionsOn n b p ≡ p
 unfolding instructionsOn
 none-asked n b p e =
     ⊎-elim
     (no-next n b p)
     (λ e. let none : n ≡ 0 = omega (arith, ltb-false 0 n e) in ap (λ (n : ℕ). instructionsOn n b p) none)
-    (one-fails (mayGoOn (p .core .stop) (b - p .used)) (ltb 0 n) e)
+    (one-fails (hasRoom (p .core .stop) (b - p .used)) (ltb 0 n) e)
 
 -- q is k cycles on from p, within a budget
 record Along (b : ℕ) (p q : Progress) : Type 0 where
@@ -119,13 +119,13 @@ record Along (b : ℕ) (p q : Progress) : Type 0 where
 
 -- whole instructions are as many cycles as they cost: `OneInstruction`, again and again
 instructions-along : (n b : ℕ) (p : Progress) → dueOne (p .core) ≡ true → p .used ≤ b → Along b p (instructionsOn n b p)
-unfolding instructionsOn pastOne coreAfter
+unfolding instructionsOn instructionOn coreAfter
 instructions-along zero b p d l = record { k = 0; cycles = sym (no-cycle p); used = omega arith; within = l }
-instructions-along (suc n) b p d l = by (mayGoOn (p .core .stop) (b - p .used)) refl (instructions-along n b (pastOne p))
+instructions-along (suc n) b p d l = by (hasRoom (p .core .stop) (b - p .used)) refl (instructions-along n b (instructionOn p))
   where
-    by : (goes : Bool) → mayGoOn (p .core .stop) (b - p .used) ≡ goes
-        → (dueOne (pastOne p .core) ≡ true → pastOne p .used ≤ b → Along b (pastOne p) (instructionsOn n b (pastOne p)))
-        → Along b p (cond goes (instructionsOn n b (pastOne p)) p)
+    by : (goes : Bool) → hasRoom (p .core .stop) (b - p .used) ≡ goes
+        → (dueOne (instructionOn p .core) ≡ true → instructionOn p .used ≤ b → Along b (instructionOn p) (instructionsOn n b (instructionOn p)))
+        → Along b p (cond goes (instructionsOn n b (instructionOn p)) p)
     by false g ih = record { k = 0; cycles = sym (no-cycle p); used = omega arith; within = l }
     by true g ih =
         let when = goes-on-when (p .core .stop) (b - p .used) g in
@@ -139,15 +139,15 @@ instructions-along (suc n) b p d l = by (mayGoOn (p .core .stop) (b - p .used)) 
           within = rest .within;
         }
 
-first-used : (n b : ℕ) (p : Progress) → dueOne (p .core) ≡ true → 1 ≤ n → mayGoOn (p .core .stop) (b - p .used) ≡ true
+first-used : (n b : ℕ) (p : Progress) → dueOne (p .core) ≡ true → 1 ≤ n → hasRoom (p .core .stop) (b - p .used) ≡ true
     → 1 ≤ instructionsOn n b p .used
-unfolding pastOne coreAfter
+unfolding instructionOn coreAfter
 first-used zero b p d l g = absurd (omega arith)
 first-used (suc n) b p d l g =
     let when = goes-on-when (p .core .stop) (b - p .used) g in
     let range = cost-range (p .memory) (visibleOf (p .core)) in
-    let rest = instructions-along n b (pastOne p) refl (omega (arith, when .1, range .1)) in
-    rw (next-one n b p (pastOne p) g refl) (omega (arith, rest .used, range .0))
+    let rest = instructions-along n b (instructionOn p) refl (omega (arith, when .1, range .1)) in
+    rw (next-one n b p (instructionOn p) g refl) (omega (arith, rest .used, range .0))
 
 -- a turn of run's loop: some cycles, at most those that are left
 record Turned (b : ℕ) (p q : Progress) : Type 0 where
@@ -255,18 +255,18 @@ onward b p q going below due e =
 
 -- one instruction, where there is room for one
 pub just-one : (core : Core) (M : List ℕ) → isGoing (core .stop) ≡ true
-    → instructionsOn 1 longest (starting core M) ≡ pastOne (starting core M)
+    → instructionsOn 1 longest (starting core M) ≡ instructionOn (starting core M)
 unfolding instructionsOn
-just-one core M going = next-one 0 longest (starting core M) (pastOne (starting core M)) (λ j. cond (going j) true false) refl
+just-one core M going = next-one 0 longest (starting core M) (instructionOn (starting core M)) (λ j. cond (going j) true false) refl
 
 -- and with the hidden registers zero it is a step's
 pub as-step : (core : Core) (M : List ℕ)
-    → let p = pastOne (starting core M) in
+    → let p = instructionOn (starting core M) in
     let next = withHidden noHidden (p .core) in
     record { answer = ran (p .used) (p .finished) (endOf (next .stop) (dueOne next)); core = next; memory = p .memory }
-    ≡ steppedReply (takes M (visibleOf core)) (instructionEngine M core) M
-unfolding pastOne coreAfter memoryAfter instructionEngine
+    ≡ steppedReply (takes M (visibleOf core)) (stepTransition M core) M
+unfolding instructionOn coreAfter memoryAfter stepTransition
 as-step core M =
     let used = zero-add (takes M (visibleOf core)) in
-    let next = instructionEngine M core .core in
+    let next = stepTransition M core .core in
     λ j. record { answer = ran (used j) 1 (endOf (next .stop) (dueOne next)); core = next; memory = memoryAfter M (visibleOf core) }

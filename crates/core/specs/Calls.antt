@@ -12,7 +12,7 @@ use Rattle.effects.specs.declared.Stop.{Stop}
 use Rattle.effects.specs.declared.Stop.the-variants.{Going, Halted, Undefined}
 use Rattle.core.specs.Cores.{Visible, visibleOf, freshCore}
 use Rattle.core.specs.Spent.{dueOne, dueInRange}
-use Rattle.core.specs.Instruction.{takes, instructionEngine}
+use Rattle.core.specs.Instruction.{takes, stepTransition}
 use Rattle.core.specs.Numbers.{loadNumber, runNumber, stepNumber, viewNumber}
 use Rattle.core.specs.Progress.{Progress, starting, cyclesOn}
 use Rattle.core.specs.declared.Core.{Core}
@@ -106,4 +106,4 @@ steppedReply cycles transition memory =
 unfoldable pub step : Core → List ℕ → Reply
 step core memory =
     unless (stepNumber (length memory) (core .stop) (dueOne core) (core .clock .0)) core memory
-    (steppedReply (takes memory (visibleOf core)) (instructionEngine memory core) memory)
+    (steppedReply (takes memory (visibleOf core)) (stepTransition memory core) memory)

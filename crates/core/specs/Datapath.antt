@@ -86,5 +86,5 @@ unfoldable pub dueCycle : List ℕ → Core → Transition
 dueCycle M core = cond (eqb (core .due) 1) (transition false (fetched M core) Nothing) (laterCycle (kindOf (core .hidden .ir)) M core)
 
 -- and of any core: one whose clock is full ('of 32 bits') does none, as one whose cycle due is none of 1 to 4
-unfoldable pub cycleOf : List ℕ → Core → Transition
-cycleOf M core = cond (clockFull (core .clock .0) 1) (idle core) (dueCycle M core)
+unfoldable pub cycleOrIdle : List ℕ → Core → Transition
+cycleOrIdle M core = cond (clockFull (core .clock .0) 1) (idle core) (dueCycle M core)

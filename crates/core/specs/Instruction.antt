@@ -73,8 +73,8 @@ unfoldable pub coreAfter : List ℕ → Core → Core
 coreAfter M core = coreAfterWord (wordDue M (visibleOf core)) M core
 
 -- the instruction engine on a core with cycle 1 due: 'hidden registers become zero'
-unfoldable pub instructionEngine : List ℕ → Core → Transition
-instructionEngine M core =
+unfoldable pub stepTransition : List ℕ → Core → Transition
+stepTransition M core =
     record {
       core = finishedWith noHidden M core;
       finished = true;

@@ -1,4 +1,4 @@
--- The core, its engines and the calls, in the order of document 01, and the theorems about them.
+-- The core, its engines and the calls, in the order of document 01, and the theorems about them; last, what only private contracts cite.
 pub mod Cores
 pub mod Spent
 pub mod Datapath

@@ -1,4 +1,5 @@
--- Document 01, 'Numbers from the input' and 'Numbers from the state': when 7, 8 and 9 apply (1 is of `refusals`), and the order of each call.
+-- Document 01, 'Numbers from the input' and 'Numbers from the state': when 8 and 9 apply (1 is of `refusals`, 7 of Spent), and the order of each
+-- call.
 use mathlib.Core.Bool.{Bool, true, false, not}
 use mathlib.Core.List.{[], _∷_}
 use Prim.Native.Nat.{ℕ, _+_}

@@ -22,8 +22,8 @@ abbrev pub starting : Core → List ℕ → Progress
 starting core memory = record { core = core; memory = memory; used = 0; finished = 0 }
 
 -- p after one cycle
-abbrev pub transitionOn : Transition → Progress → Progress
-transitionOn transition p =
+abbrev pub afterCycle : Transition → Progress → Progress
+afterCycle transition p =
     record {
       core = transition .core;
       memory = applied (transition .store) (p .memory);
@@ -32,7 +32,7 @@ transitionOn transition p =
     }
 
 unfoldable pub cycleOn : Progress → Progress
-cycleOn p = transitionOn (dueCycle (p .memory) (p .core)) p
+cycleOn p = afterCycle (dueCycle (p .memory) (p .core)) p
 
 -- after b cycles, fewer if the core stops
 unfoldable pub cyclesOn : ℕ → Progress → Progress
@@ -40,8 +40,8 @@ cyclesOn zero p = p
 cyclesOn (suc b) p = cond (isGoing (p .core .stop)) (cyclesOn b (cycleOn p)) p
 
 -- past the instruction at PC
-unfoldable pub pastOne : Progress → Progress
-pastOne p =
+unfoldable pub instructionOn : Progress → Progress
+instructionOn p =
     record {
       core = coreAfter (p .memory) (p .core);
       memory = memoryAfter (p .memory) (visibleOf (p .core));

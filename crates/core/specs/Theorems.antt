@@ -22,8 +22,8 @@ use Rattle.effects.specs.declared.Store.the-variants.{Nothing}
 use Rattle.core.specs.Cores.{freshCore, withRegs, withPc, withSp, withFlags, withHidden, withDue, stopped, withClock, visibleOf, register, raOf, rbOf, effectBefore}
 use Rattle.core.specs.Spent.{spentOf, dueInRange, dueOne}
 use Rattle.core.specs.Datapath.{dueCycle}
-use Rattle.core.specs.Instruction.{past, takes, instructionEngine}
-use Rattle.core.specs.Progress.{Progress, starting, cyclesOn, pastOne}
+use Rattle.core.specs.Instruction.{past, takes, stepTransition}
+use Rattle.core.specs.Progress.{Progress, starting, cyclesOn, instructionOn}
 use Rattle.core.specs.declared.Core.{Core}
 
 -- a core with these parts
@@ -96,7 +96,7 @@ abbrev pub OneInstruction : Type 0
 OneInstruction =
     (p : Progress) → p .core .stop ≡ Going → dueOne (p .core) ≡ true
     → ((i : ℕ) → i < takes (p .memory) (visibleOf (p .core)) → Midway i p (cyclesOn i p))
-    × (cyclesOn (takes (p .memory) (visibleOf (p .core))) p ≡ pastOne p)
+    × (cyclesOn (takes (p .memory) (visibleOf (p .core))) p ≡ instructionOn p)
 
 -- 'A core that no call made may have, in cycle 3 or 4, an IR word whose listed cost under its flags is below the cycle due. That cycle
 -- finishes the instruction and changes nothing else but the clock': cycle 1 is due, as after every last cycle (proved as
@@ -118,7 +118,7 @@ benchMemory word pc = set (replicate (pc + 1) 0) pc word
 abbrev pub Does : ℕ → ℕ → ℕ → ℕ → (Core → Type 0) → Type 0
 Does word p q pc Claim =
     Claim (cyclesOn 4 (starting (benchCore p q pc) (benchMemory word pc)) .core)
-    × Claim (instructionEngine (benchMemory word pc) (benchCore p q pc) .core)
+    × Claim (stepTransition (benchMemory word pc) (benchCore p q pc) .core)
 
 -- with the word at 0000; and where a jump or call at `pc` goes
 abbrev pub Gives : ℕ → ℕ → ℕ → (Core → Type 0) → Type 0

@@ -15,9 +15,9 @@ use Rattle.effects.specs.declared.Store.the-variants.{Nothing}
 use Rattle.effects.specs.Hidden.{noHidden}
 use Rattle.core.specs.Cores.{freshCore, withHidden, visibleOf}
 use Rattle.core.specs.Instruction.{takes}
-use Rattle.core.specs.Progress.{starting, transitionOn}
+use Rattle.core.specs.Progress.{starting, afterCycle}
 use Rattle.core.specs.Calls.{Answer, done, stored, ran, viewed, refused, refusedAt, Reply, reset, load, view, ranReply, run, step}
-use Rattle.core.specs.Datapath.{dueCycle, cycleOf}
+use Rattle.core.specs.Datapath.{dueCycle, cycleOrIdle}
 use Rattle.core.specs.declared.Core.{Core}
 use Rattle.core.specs.declared.End.{End}
 use Rattle.core.specs.declared.End.the-variants.{H, U, B, M}
@@ -130,11 +130,11 @@ RunAgain =
 abbrev pub CycleExactly : Type 0
 CycleExactly =
     (core : Core) (memory : List ℕ)
-    → (core .clock .0 < 4294967295 → cycleOf memory core ≡ dueCycle memory core)
+    → (core .clock .0 < 4294967295 → cycleOrIdle memory core ≡ dueCycle memory core)
     × (NoneApplies (runNumbers 1 core memory)
-    → run 1 core memory ≡ ranReply (transitionOn (cycleOf memory core) (starting core memory)))
+    → run 1 core memory ≡ ranReply (afterCycle (cycleOrIdle memory core) (starting core memory)))
     × ((4294967295 ≤ core .clock .0) ⊎ ((core .due < 1) ⊎ (4 < core .due))
-    → cycleOf memory core ≡ record { core = core; finished = false; store = Nothing })
+    → cycleOrIdle memory core ≡ record { core = core; finished = false; store = Nothing })
 
 -- a step that is taken answers its instruction's cost, 1 instruction finished and the letter of the core that it hands back; it is as a run
 -- of just that cost, but that the 'hidden registers become zero' (proved as `step-taken`)

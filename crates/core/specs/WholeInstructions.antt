@@ -20,7 +20,7 @@ use Rattle.core.specs.Cores.{withHidden, withClock, Visible, visible, wi
 use Rattle.core.specs.Spent.{dueOne}
 use Rattle.core.specs.Instruction.{wordDue, takes}
 use Rattle.core.specs.Numbers.{isGoing, longest}
-use Rattle.core.specs.Progress.{Progress, cycleOn, pastOne}
+use Rattle.core.specs.Progress.{Progress, cycleOn, instructionOn}
 use Rattle.core.specs.declared.Core.{Core}
 use Rattle.core.specs.declared.Working.{Working}
 use Rattle.core.specs.declared.Moved.{Moved}
@@ -42,13 +42,13 @@ abbrev pub joined : Core → Working → List ℕ → ℕ → Core
 joined core s regs used = withClock (core .clock .0 + used) (withHidden (s .hidden) (withVisible (seen s regs) core))
 
 -- what an instruction can change, with PC one past it
-abbrev pub beforeOf : Working → ℕ → Effect
-beforeOf s rt = untouched rt (sum (s .pc) 1) (s .sp) (s .flags) (s .stop)
+abbrev pub effectBeforeOf : Working → ℕ → Effect
+effectBeforeOf s rt = untouched rt (sum (s .pc) 1) (s .sp) (s .flags) (s .stop)
 
 -- the instruction w by the table, on the registers that it names; and the state after it and its cycles
 abbrev pub executedOf : Kind → ℕ → List ℕ → List ℕ → Working → Executed
 executedOf k w regs M s =
-    wholeInstruction k w (raOf w regs) (register regs (fieldB w)) (s .hidden) M (beforeOf s (register regs (fieldT w)))
+    wholeInstruction k w (raOf w regs) (register regs (fieldB w)) (s .hidden) M (effectBeforeOf s (register regs (fieldT w)))
 
 abbrev pub workingAfter : Kind → ℕ → List ℕ → Executed → ℕ → Working → Working
 workingAfter k w regs done cycles s =
@@ -67,14 +67,14 @@ abbrev pub bankOn : List ℕ → List ℕ → Working → List ℕ
 bankOn M regs s = set regs (fieldT (wordDue M (seen s regs))) (doneOn M regs s .effect .rt)
 
 -- is the core going, and does the next instruction fit into what is left, whatever it costs?
-abbrev pub mayGoOn : Stop → ℕ → Bool
-mayGoOn stop left = cond (isGoing stop) (leb longest left) false
+abbrev pub hasRoom : Stop → ℕ → Bool
+hasRoom stop left = cond (isGoing stop) (leb longest left) false
 
 -- at most n instructions, each where the core is going and b has room for one. With b for n there is no other bound, since each takes 2 cycles
 -- or more
 unfoldable pub instructionsOn : ℕ → ℕ → Progress → Progress
 instructionsOn zero b p = p
-instructionsOn (suc n) b p = cond (mayGoOn (p .core .stop) (b - p .used)) (instructionsOn n b (pastOne p)) p
+instructionsOn (suc n) b p = cond (hasRoom (p .core .stop) (b - p .used)) (instructionsOn n b (instructionOn p)) p
 
 -- a turn of run's loop with b cycles left, from a p that has used none: whole instructions, or else one cycle
 abbrev pub instructionsOrCycle : ℕ → Progress → Progress
@@ -82,5 +82,5 @@ instructionsOrCycle b p = cond (leb longest b) (cond (dueOne (p .core)) (instruc
 
 -- how far code has come, with the memory as it then is
 abbrev pub reached : Moved → List ℕ → Progress
-reached a memory =
-    record { core = a .core; memory = memory; used = a .cycles .0; finished = a .instructions .0 }
+reached moved memory =
+    record { core = moved .core; memory = memory; used = moved .cycles .0; finished = moved .instructions .0 }

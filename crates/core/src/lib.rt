@@ -15,9 +15,9 @@ ghost use Rattle.effects.specs.Hidden.{noHidden};
 ghost use Rattle.effects.specs.Cycles.{stopOf};
 ghost use Rattle.core.specs.Cores.{freshCore, withHidden, stopped, visibleOf, register, effectBefore};
 ghost use Rattle.core.specs.Spent.{dueInRange, dueOne};
-ghost use Rattle.core.specs.Datapath.{fetched, latched, second, withResult, third, withEffect, dueAfter, ticked, transition, idle, isLast, laterCycle, dueCycle, cycleOf};
+ghost use Rattle.core.specs.Datapath.{fetched, latched, second, withResult, third, withEffect, dueAfter, ticked, transition, idle, isLast, laterCycle, dueCycle, cycleOrIdle};
 ghost use Rattle.core.specs.Instruction.{memoryAfter};
-ghost use Rattle.core.specs.WholeInstructions.{workingFrom, seen, joined, beforeOf, executedOf, workingAfter, workingOn, bankOn, mayGoOn, instructionsOn, instructionsOrCycle, reached};
+ghost use Rattle.core.specs.WholeInstructions.{workingFrom, seen, joined, effectBeforeOf, executedOf, workingAfter, workingOn, bankOn, hasRoom, instructionsOn, instructionsOrCycle, reached};
 ghost use Rattle.core.specs.Numbers.{isGoing, longest, clockFull, viewNumber, loadNumber, runNumber};
 ghost use Rattle.core.specs.Progress.{starting, cycleOn};
 ghost use Rattle.core.specs.Calls.{ran, refused, loadAnswer, goingEnd, endOf, reset, load, run, step, view};
@@ -282,7 +282,7 @@ fn apply(store: Store, memory: &mut [u16])
 
 // Is the core going, is there room for an instruction, whatever it takes, and is one more asked?
 fn may_go_on(state: Working, more: u32) -> bool
-    ensures { λ r. ⌜ r ≡ cond (mayGoOn (state .stop) (state .left .0)) (ltb 0 more) false ⌝ }
+    ensures { λ r. ⌜ r ≡ cond (hasRoom (state .stop) (state .left .0)) (ltb 0 more) false ⌝ }
 {
     let stop = state.stop;
     if is_going(stop) {
@@ -296,7 +296,7 @@ fn may_go_on(state: Working, more: u32) -> bool
 impl Working {
     // What an instruction can change, as it is with PC one past it.
     fn before(self, rt: u16) -> Effect
-        ensures { λ r. ⌜ r ≡ beforeOf self rt ⌝ }
+        ensures { λ r. ⌜ r ≡ effectBeforeOf self rt ⌝ }
     {
         let flags = self.flags;
         let stop = self.stop;
@@ -545,7 +545,7 @@ impl Core {
     // The datapath engine: one cycle, for every core. One whose clock is full, or whose cycle due is none of 1 to 4, is handed back as it is. The
     // store is the caller's to make; whether the core is going is the caller's to ask.
     pub fn cycle(self, memory: &[u16]) -> Transition
-        ensures { λ r. ⌜ r ≡ cycleOf (now (memory .entry)) self ⌝ }
+        ensures { λ r. ⌜ r ≡ cycleOrIdle (now (memory .entry)) self ⌝ }
     {
         let clock = self.clock;
         if clock_full(clock, 1) {

@@ -1,4 +1,4 @@
--- What holds of every listing's lines, of every line and of every comment: eight statements, proved in proofs/Theorems.antt,
+-- What holds of every listing's lines, of every line, number and comment: eight statements, proved in proofs/Theorems.antt,
 -- proofs/Grammar.antt and proofs/ReadBack.antt.
 use mathlib.Core.Path.{_≡_}
 use mathlib.Core.Logic.{_↔_, _⊎_}

@@ -12,7 +12,7 @@ use Rattle.effects.specs.declared.Stop.{Stop}
 use Rattle.effects.specs.declared.Stop.the-variants.{Going, Halted, Undefined}
 use Rattle.core.specs.Cores.{visibleOf, freshCore}
 use Rattle.core.specs.Spent.{dueOne}
-use Rattle.core.specs.Instruction.{after, memoryAfter, wordTakes, takes, instructionEngine}
+use Rattle.core.specs.Instruction.{after, memoryAfter, wordTakes, takes, stepTransition}
 use Rattle.refusals.specs.Refusals.{wrongLength}
 use Rattle.core.specs.Numbers.{isGoing, loadNumber, runNumber, stepNumber, viewNumber}
 use Rattle.core.specs.Calls as core
@@ -106,9 +106,9 @@ module _ (c : Core) (m : Machine) (log : List Logged) (r : Related c m log) wher
 
   -- one instruction by both
   step-taken : m .spent ≡ 0
-      → Same (core.steppedReply (takes (m .memory) (visibleOf c)) (instructionEngine (m .memory) c) (m .memory)) (stepped m)
+      → Same (core.steppedReply (takes (m .memory) (visibleOf c)) (stepTransition (m .memory) c) (m .memory)) (stepped m)
       (stepped m .log ++ log)
-  unfolding instructionEngine memoryAfter cyclesOf takes
+  unfolding stepTransition memoryAfter cyclesOf takes
   step-taken none =
       let visible = visible-same r none in
       let clock = seen r .clock in

@@ -14,7 +14,7 @@ use Rattle.effects.specs.declared.Stop.{Stop}
 use Rattle.effects.specs.declared.Stop.the-variants.{Going, Halted, Undefined}
 use Rattle.core.specs.Spent.{dueOne, dueInRange}
 use Rattle.core.specs.Datapath.{second, laterCycle, dueCycle}
-use Rattle.core.specs.Instruction.{after, instructionEngine}
+use Rattle.core.specs.Instruction.{after, stepTransition}
 use Rattle.core.specs.Numbers.{isGoing, runNumber, stepNumber}
 use Rattle.core.specs.Progress.{Progress, starting, cycleOn, cyclesOn}
 use Rattle.core.specs.Calls.{Reply, run, step}
@@ -66,7 +66,7 @@ run-held core memory b h =
     h
 
 pub step-held : (core : Core) (memory : List ℕ) → Held core → Held (step core memory .core)
-unfolding step held instructionEngine after
+unfolding step held stepTransition after
 step-held core memory h =
     either held (eqb (stepNumber (length memory) (core .stop) (dueOne core) (core .clock .0)) 0)
     (λ _. (length-set (core .regs) _ _ ∙ h .0, omega arith))

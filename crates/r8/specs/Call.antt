@@ -4,10 +4,9 @@ use mathlib.Core.List.{List}
 use Prim.Native.Nat.{ℕ}
 use lib.Dec.{eqb, ltb}
 use lib.ListN.{length}
-use Rattle.core.specs.Calls.{Reply, run, step}
+use Rattle.core.specs.Calls.{Reply}
 use Rattle.core.specs.declared.Core.{Core}
 use Rattle.layout.specs.Layout.{answerSize, answerNumbers, onto}
-use Rattle.r8.specs.declared.call.Asked.{Asked}
 use Rattle.r8.specs.Numbers.{registersOf, stateOf, coreOf, isCore}
 
 -- the slices that a caller lends
@@ -40,8 +39,3 @@ returned code x next = (code, cond (eqb code 0) next x)
 
 unfoldable pub called : (Core → List ℕ → Reply) → Slices → ℕ × Slices
 called call x = returned (codeOf (x .registers) (x .state) (x .answer)) x (made call x)
-
--- what the two functions ask of a core
-abbrev pub onCore : Asked → Core → List ℕ → Reply
-onCore (Asked.Run b) = run b
-onCore Asked.Step = step

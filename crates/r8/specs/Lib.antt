@@ -5,3 +5,4 @@ pub mod Call
 pub mod Replay
 pub mod Trace
 pub mod Theorems
+pub mod CallParts

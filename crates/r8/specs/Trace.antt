@@ -12,8 +12,8 @@ pub record TraceReturned : Type 0 where
   pub rows : List ℕ
   pub answer : List ℕ
 
-abbrev pub lentTrace : ℕ → List ℕ → List ℕ → TraceReturned
-lentTrace code rows answer = record { code = code; rows = rows; answer = answer }
+abbrev pub traceReturned : ℕ → List ℕ → List ℕ → TraceReturned
+traceReturned code rows answer = record { code = code; rows = rows; answer = answer }
 
 -- 0: the run's answer, or the refused load's; 1: the listing is too long; 2: the rows are too short
 abbrev pub foundReturned : Finding → List ℕ → ℕ × List ℕ
@@ -22,10 +22,10 @@ foundReturned tooLong answer = (1, answer)
 foundReturned noRoom answer = (2, answer)
 
 abbrev pub afterTrace : Trace → List ℕ → TraceReturned
-afterTrace x answer = lentTrace (foundReturned (x .finding) answer .0) (x .rows) (foundReturned (x .finding) answer .1)
+afterTrace x answer = traceReturned (foundReturned (x .finding) answer .0) (x .rows) (foundReturned (x .finding) answer .1)
 
 -- first the length of the listing (1), then that of the answer (2), then what the trace finds
-unfoldable pub tracedLent : List ℕ → List ℕ → List ℕ → TraceReturned
-tracedLent listing rows answer =
-    cond (ltb 65536 (length listing)) (lentTrace 1 rows answer)
-    (cond (ltb (length answer) answerSize) (lentTrace 2 rows answer) (afterTrace (traced listing rows) answer))
+unfoldable pub tracedReturned : List ℕ → List ℕ → List ℕ → TraceReturned
+tracedReturned listing rows answer =
+    cond (ltb 65536 (length listing)) (traceReturned 1 rows answer)
+    (cond (ltb (length answer) answerSize) (traceReturned 2 rows answer) (afterTrace (traced listing rows) answer))

@@ -6,7 +6,8 @@ ghost use Rattle.core.specs.Calls.{run, step};
 ghost use Rattle.core.specs.Answers.{runAnswerOf, runGave};
 ghost use Rattle.layout.specs.Layout.{flagsOf, answerNumbers, onto};
 ghost use Rattle.r8.specs.Numbers.{stopOf, hiddenOf, coreOf, registersOf, stateOf, isCore};
-ghost use Rattle.r8.specs.Call.{codeOf, slices, called, onCore};
+ghost use Rattle.r8.specs.Call.{codeOf, slices, called};
+ghost use Rattle.r8.specs.CallParts.{callOf};
 use core::Core;
 use core::RunReply;
 use effects::Hidden;
@@ -147,7 +148,7 @@ enum Asked {
 }
 
 fn on_core(asked: Asked, core: Core, memory: &mut [u16]) -> RunReply
-    ensures { λ r. ⌜ runGave r (now (memory .exit)) ≡ onCore asked core (now (memory .entry)) ⌝ }
+    ensures { λ r. ⌜ runGave r (now (memory .exit)) ≡ callOf asked core (now (memory .entry)) ⌝ }
 {
     match asked {
         Asked::Run(b) => core.run(b, memory),
@@ -163,7 +164,7 @@ fn called(
     memory: &mut [u16],
     answer: &mut [u64],
 ) -> u32
-    ensures { λ r. ⌜ (r, slices (now (registers .exit)) (now (state .exit)) (now (memory .exit)) (now (answer .exit))) ≡ called (onCore asked) (slices (now (registers .entry)) (now (state .entry)) (now (memory .entry)) (now (answer .entry))) ⌝ }
+    ensures { λ r. ⌜ (r, slices (now (registers .exit)) (now (state .exit)) (now (memory .exit)) (now (answer .exit))) ≡ called (callOf asked) (slices (now (registers .entry)) (now (state .entry)) (now (memory .entry)) (now (answer .entry))) ⌝ }
 {
     let code = code_of(registers, state, answer);
     if code != 0 {

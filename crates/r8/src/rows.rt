@@ -1,7 +1,7 @@
 // The trace of a listing, as numbers.
 ghost use mathlib.Core.Path.{_≡_};
 ghost use Rattle.trace.specs.Trace.{findingOf};
-ghost use Rattle.r8.specs.Trace.{foundReturned, tracedLent, lentTrace};
+ghost use Rattle.r8.specs.Trace.{foundReturned, tracedReturned, traceReturned};
 use core::LoadAnswer;
 use core::RunAnswer;
 use trace::TraceAnswer;
@@ -36,7 +36,7 @@ fn put_found(found: TraceAnswer, answer: &mut [u64]) -> u32
 
 #[no_mangle]
 pub extern "C" fn r8_trace(listing: &[u8], rows: &mut [u64], answer: &mut [u64]) -> u32
-    ensures { λ r. ⌜ lentTrace r (now (rows .exit)) (now (answer .exit)) ≡ tracedLent (now (listing .entry)) (now (rows .entry)) (now (answer .entry)) ⌝ }
+    ensures { λ r. ⌜ traceReturned r (now (rows .exit)) (now (answer .exit)) ≡ tracedReturned (now (listing .entry)) (now (rows .entry)) (now (answer .entry)) ⌝ }
 {
     if 65536 < listing.len() {
         return 1;

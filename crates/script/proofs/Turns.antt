@@ -13,7 +13,7 @@ use Rattle.script.specs.ScriptParts.{scriptAt, verdictOf, atEndAnswer}
 use Rattle.script.specs.declared.Command.{Command}
 use Rattle.script.specs.declared.Place.{Place}
 use Rattle.script.specs.declared.Place.the-variants.{Outside, Inside}
-use Rattle.script.specs.declared.Start.{Start}
+use Rattle.script.specs.declared.LineStart.{LineStart}
 use Rattle.script.specs.declared.Meaning.{Meaning}
 use Rattle.script.specs.declared.ScriptAnswer.{ScriptAnswer}
 use Rattle.script.specs.declared.ScriptAnswer.the-variants as answer
@@ -41,7 +41,7 @@ module _ (s : List ℕ) (at : ℕ) {n : ℕ} (long : n ≡ length (firstLine (ta
       let next : at + (length (firstLine (drop at s)) + 1) ≡ at + n + 1 = omega (arith, line-size) in
       rw (front-at s at h, next, ← line-size, means, after, says, line-text)
 
-pub reads-end : (s : List ℕ) (start : Start) → length s ≤ start .at → scriptAt s start ≡ atEnd (start .place)
+pub reads-end : (s : List ℕ) (start : LineStart) → length s ≤ start .at → scriptAt s start ≡ atEnd (start .place)
 unfolding scriptFrom lines
 reads-end s start h = rw (drop-of-length-le s h)
 

@@ -12,7 +12,7 @@ use Rattle.script.specs.Script.{Call, call, Script, calls, unreadable, f
 use Rattle.script.specs.ScriptParts.{scriptAt, verdictOf, callsIn, put, Fits, callsWritten}
 use Rattle.script.specs.declared.Place.{Place}
 use Rattle.script.specs.declared.Place.the-variants.{Outside, Inside}
-use Rattle.script.specs.declared.Start.{Start}
+use Rattle.script.specs.declared.LineStart.{LineStart}
 use Rattle.script.specs.declared.Meaning.{Meaning}
 use Rattle.script.specs.declared.Meaning.the-variants as meaning
 use Rattle.script.specs.declared.ScriptAnswer.{ScriptAnswer}
@@ -34,14 +34,14 @@ all-stored cs old h =
     sym (sets-eq (numbersOf cs) old 0 (omega arith) ∙ ap (λ (n : ℕ). numbersOf cs ++ drop n old) start)
 
 -- writing under way: the calls left, stored from the place reached, give what all give
-pub record Reached (text old : List ℕ) (start : Start) (to : ℕ) (list : List ℕ) : Type 0 where
+pub record Reached (text old : List ℕ) (start : LineStart) (to : ℕ) (list : List ℕ) : Type 0 where
   pub left : List Call
   pub reads : scriptAt text start ≡ calls left
   pub room : to + 3 * length left ≤ length list
   pub same : length list ≡ length old
   pub gives : callsWritten (scriptOf text) old ≡ sets list to (numbersOf left)
 
-abbrev firstStart : Start
+abbrev firstStart : LineStart
 firstStart = record { at = 0; number = 1; place = Outside }
 
 pub starts : (text old : List ℕ) → Fits (scriptOf text) (length old) → Reached text old firstStart 0 old
@@ -52,9 +52,9 @@ starts text old = by (scriptOf text) refl where
       record { left = cs; reads = e; room = omega arith; same = refl; gives = ap (λ (x : Script). callsWritten x old) e ∙ all-stored cs old h }
   by (unreadable number) e h = absurd h
 
-module _ {text old : List ℕ} {start : Start} {to : ℕ} {list : List ℕ} (r : Reached text old start to list) where
+module _ {text old : List ℕ} {start : LineStart} {to : ℕ} {list : List ℕ} (r : Reached text old start to list) where
   -- a line more
-  pub goes-on : (m : Meaning) (number : ℕ) {next : Start} → scriptAt text start ≡ followed m number (scriptAt text next)
+  pub goes-on : (m : Meaning) (number : ℕ) {next : LineStart} → scriptAt text start ≡ followed m number (scriptAt text next)
       → (to + 3 * callsIn m ≤ length list) × Reached text old next (to + 3 * callsIn m) (put m to list)
   unfolding numbersOf
   goes-on m number {next} e = by m (scriptAt text next) refl (sym e ∙ r .reads) where

@@ -7,19 +7,19 @@ use Rattle.lines.specs.Lines.{lines}
 use Rattle.script.specs.Script.{Script, calls, unreadable, scriptFrom, numbersOf}
 use Rattle.script.specs.declared.Place.{Place}
 use Rattle.script.specs.declared.Place.the-variants.{Outside, Inside}
-use Rattle.script.specs.declared.Start.{Start}
+use Rattle.script.specs.declared.LineStart.{LineStart}
 use Rattle.script.specs.declared.Meaning.{Meaning}
 use Rattle.script.specs.declared.Meaning.the-variants as meaning
 use Rattle.script.specs.declared.ScriptAnswer.{ScriptAnswer}
 use Rattle.script.specs.declared.ScriptAnswer.the-variants as answer
 
 -- the script that the lines from a start on are
-abbrev pub scriptAt : List ℕ → Start → Script
+abbrev pub scriptAt : List ℕ → LineStart → Script
 scriptAt text start = scriptFrom (start .place) (start .number) (start .at) (lines (drop (start .at) text))
 
 -- a start that a line of a text can have: one past its end at most, as the last line may lack its LF; and every line before it took a
 -- byte or more
-abbrev pub Within : List ℕ → Start → Type 0
+abbrev pub Within : List ℕ → LineStart → Type 0
 Within text start = (start .at ≤ length text + 1) × (start .number ≤ start .at + 1)
 
 -- what a script is found to be before anything is written

@@ -33,23 +33,23 @@ enum Meaning {
 }
 
 // Where a line starts: its offset, its number, from 1, and its place.
-struct Start {
+struct LineStart {
     at: usize,
     number: usize,
     place: Place,
 }
 
 // The first line.
-const FIRST: Start = Start {
+const FIRST: LineStart = LineStart {
     at: 0,
     number: 1,
     place: Place::Outside,
 };
 
 // What a line comes to, and where the next one starts.
-struct Turn {
+struct LineRead {
     meaning: Meaning,
-    next: Start,
+    next: LineStart,
 }
 
 // How many calls a script has; or the number, from 1, of the first line that cannot be read (of a load that is never ended, the line
@@ -295,7 +295,7 @@ fn at_end(place: Place, count: usize) -> ScriptAnswer
 }
 
 // Reads one line: what the lines from its start on are is what it comes to, followed by the lines from the next start on.
-fn read_turn(text: &[u8], start: Start) -> Turn
+fn read_line(text: &[u8], start: LineStart) -> LineRead
     requires { ⌜ (start .at < length (now text)) × Within (now text) start ⌝ }
     ensures reads { λ r. ⌜ scriptAt (now (text .entry)) start ≡ followed (r .meaning) (start .number) (scriptAt (now (text .entry)) (r .next)) ⌝ }
     ensures goes { λ r. ⌜ (start .at < r .next .at) × Within (now (text .entry)) (r .next) ⌝ }
@@ -308,12 +308,12 @@ fn read_turn(text: &[u8], start: Start) -> Turn
     let command = read_command(&rest[..length]);
     let meaning = meaning_of(place, command, at);
     let after = at + length + 1;
-    let next = Start {
+    let next = LineStart {
         at: after,
         number: number + 1,
         place: place_after(place, command, number, after),
     };
-    Turn { meaning, next }
+    LineRead { meaning, next }
 }
 
 // What a script is, with nothing written yet.
@@ -323,8 +323,8 @@ fn check(text: &[u8]) -> ScriptAnswer
     let mut start = FIRST;
     let mut count = 0;
     while start.at < text.len() {
-        let turn = read_turn(text, start);
-        let meaning = turn.meaning;
+        let line = read_line(text, start);
+        let meaning = line.meaning;
         match meaning {
             Meaning::Nothing => {}
             Meaning::Call {
@@ -338,7 +338,7 @@ fn check(text: &[u8]) -> ScriptAnswer
                 return ScriptAnswer::Unreadable(start.number);
             }
         }
-        start = turn.next;
+        start = line.next;
     }
     let place = start.place;
     at_end(place, count)
@@ -374,10 +374,10 @@ fn write_calls(text: &[u8], calls: &mut [u64])
     let mut start = FIRST;
     let mut to = 0;
     while start.at < text.len() {
-        let turn = read_turn(text, start);
-        let meaning = turn.meaning;
+        let line = read_line(text, start);
+        let meaning = line.meaning;
         to = put_call(calls, to, meaning);
-        start = turn.next;
+        start = line.next;
     }
 }
 

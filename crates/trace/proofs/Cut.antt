@@ -13,7 +13,7 @@ use Rattle.words.specs.Memory.{wordAt}
 use Rattle.effects.specs.declared.Stop.the-variants.{Going}
 use Rattle.core.specs.Cores.{Visible, visibleOf}
 use Rattle.core.specs.Spent.{spentOf, dueOne}
-use Rattle.core.specs.Instruction.{after, memoryAfter, takes, instructionEngine}
+use Rattle.core.specs.Instruction.{after, memoryAfter, takes, stepTransition}
 use Rattle.refusals.specs.Refusals.{wrongLength}
 use Rattle.core.specs.Numbers.{isGoing, runNumber}
 use Rattle.core.specs.Progress.{Progress, cycleOn, cyclesOn}
@@ -67,7 +67,7 @@ module _ (q : Progress) (core : Core) (memory : List ℕ) (b : ℕ) (s : Same q 
   cost : takes (q .memory) (visibleOf (q .core)) ≡ takes memory (visibleOf core)
   cost = λ j. takes (s .words j) (s .visible j)
 
-  step-is : core .stop ≡ Going → step core memory ≡ steppedReply (takes memory (visibleOf core)) (instructionEngine memory core) memory
+  step-is : core .stop ≡ Going → step core memory ≡ steppedReply (takes memory (visibleOf core)) (stepTransition memory core) memory
   unfolding runNumber
   step-is going =
       let size : wrongLength (length memory) ≡ false = ap wrongLength (s .size) in
@@ -80,7 +80,7 @@ module _ (q : Progress) (core : Core) (memory : List ℕ) (b : ℕ) (s : Same q 
       ∙ none-left)
 
   taken : q .core .stop ≡ Going → takes memory (visibleOf core) ≤ b → Next q core memory b (takes memory (visibleOf core))
-  unfolding instructionEngine memoryAfter
+  unfolding stepTransition memoryAfter
   taken going within =
       let c = takes memory (visibleOf core) in
       let f = rw cost at (one-finished q going (s .due)) in
@@ -99,7 +99,7 @@ module _ (q : Progress) (core : Core) (memory : List ℕ) (b : ℕ) (s : Same q 
               words = f .memory ∙ (λ j. memoryAfter (s .words j) (s .visible j)) ∙ sym put;
               due = f .due;
               one = ap (λ (r : Reply). dueOne (r .core)) stepped;
-              size = ap length put ∙ applied-length (instructionEngine memory core .store) memory ∙ s .size;
+              size = ap length put ∙ applied-length (stepTransition memory core .store) memory ∙ s .size;
               room = omega (arith, s .room, ap (λ (r : Reply). r .core .clock .0) stepped);
             };
         finished = f .finished;

@@ -23,22 +23,22 @@ loop-holds : tie.Need-loop-holds Inv-loop μ-loop
 unfolding scriptOf
 loop-holds c = (verdict-starts (scriptOf (c .before .args .text .now)), (omega arith, omega arith), omega arith)
 
-read-turn-requires : tie.Need-read-turn-requires Inv-loop μ-loop
-read-turn-requires c κs = (c .if1 .taken, c .before .before .loop .inv .1)
+read-line-requires : tie.Need-read-line-requires Inv-loop μ-loop
+read-line-requires c κs = (c .if1 .taken, c .before .before .loop .inv .1)
 
 returns : tie.Need-returns Inv-loop μ-loop
 returns c =
     let l = c .before .before .before .before .before .loop in
-    let t = c .before .before .read-turn in
+    let t = c .before .before .read-line in
     sym (l .inv .0 ∙ ap (verdictFrom (l .count)) (t .ensures .0) ∙ rw (c .enum-told3 .given .1))
 
 loop-less : tie.Need-loop-less Inv-loop μ-loop
-loop-less c = omega (arith, c .before .before .read-turn .ensures .1)
+loop-less c = omega (arith, c .before .before .read-line .ensures .1)
 
 loop-again : tie.Need-loop-again Inv-loop μ-loop
 loop-again c =
     let l = c .before .before .before .before .before .loop in
-    let t = c .before .before .read-turn in
+    let t = c .before .before .read-line in
     let rest = scriptAt (c .before .before .before .before .before .before .before .args .text .now) (t .result .next) in
     let known = l .inv .0 ∙ ap (verdictFrom (l .count)) (t .ensures .0) in
     ⊎-elim
@@ -60,7 +60,7 @@ check-spec =
     Inv-loop
     μ-loop
     loop-holds
-    read-turn-requires
+    read-line-requires
     (λ c. search needs) (λ c. search needs) (λ c. search needs) (λ c. search needs)
     returns
     loop-less

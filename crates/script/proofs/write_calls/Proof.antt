@@ -18,22 +18,22 @@ loop-holds : tie.Need-loop-holds Inv-loop μ-loop
 loop-holds c =
     let a = c .before .before in ((omega arith, omega arith), starts (a .args .text .now) (a .args .calls .now) (a .pre))
 
-read-turn-requires : tie.Need-read-turn-requires Inv-loop μ-loop
-read-turn-requires c κs = (c .if1 .taken, c .before .before .loop .inv .0)
+read-line-requires : tie.Need-read-line-requires Inv-loop μ-loop
+read-line-requires c κs = (c .if1 .taken, c .before .before .loop .inv .0)
 
 put-call-requires : tie.Need-put-call-requires Inv-loop μ-loop
 put-call-requires c κs =
-    let t = c .before .read-turn in
+    let t = c .before .read-line in
     let l = c .before .before .before .before .loop in
     goes-on (l .inv .1) (t .result .meaning) (l .start .number) (t .ensures .0) .0
 
 loop-less : tie.Need-loop-less Inv-loop μ-loop
-loop-less c = omega (arith, c .before .before .before .before .before .read-turn .ensures .1)
+loop-less c = omega (arith, c .before .before .before .before .before .read-line .ensures .1)
 
 loop-again : tie.Need-loop-again Inv-loop μ-loop
 loop-again c =
     let put = c .before .before .before .put-call in
-    let t = c .before .before .before .before .before .read-turn in
+    let t = c .before .before .before .before .before .read-line in
     let l = c .before .before .before .before .before .before .before .before .loop in
     (t .ensures .1 .1, rw (put .ensures .0, put .ensures .1) (goes-on (l .inv .1) (t .result .meaning) (l .start .number) (t .ensures .0) .1))
 
@@ -52,7 +52,7 @@ write-calls-spec =
     Inv-loop
     μ-loop
     loop-holds
-    read-turn-requires
+    read-line-requires
     put-call-requires
     loop-less
     loop-again

@@ -4,12 +4,12 @@ use Prim.Native.Nat.{_+_}
 use native.Mathlib.Omega.{arith}
 use borrow.Author.Needs.{needs}
 use borrow.Author.Tests.{ltb-false}
-use Rattle.core.specs.Datapath.{cycleOf}
+use Rattle.core.specs.Datapath.{cycleOrIdle}
 use Rattle.core.proofs.Core.cycle.Statement.{statement}
 use Rattle.core.proofs.Core.cycle.Tie as tie
 
 returns : tie.Need-returns
-unfolding cycleOf
+unfolding cycleOrIdle
 returns c = c .idle .ensures ∙ sym (rw (sym (c .before .before .clock-full .ensures) ∙ c .before .if1 .taken))
 
 due-cycle-requires : tie.Need-due-cycle-requires
@@ -18,7 +18,7 @@ due-cycle-requires c κs =
     omega (arith, ltb-false 4294967295 (clock + 1) (sym (c .before .clock-full .ensures) ∙ c .if1 .left))
 
 returns-2 : tie.Need-returns-2
-unfolding cycleOf
+unfolding cycleOrIdle
 returns-2 c = c .due-cycle .ensures ∙ sym (rw (sym (c .before .before .clock-full .ensures) ∙ c .before .if1 .left))
 
 pub cycle-spec : {M : Type 1} → statement M

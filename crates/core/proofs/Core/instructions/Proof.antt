@@ -10,7 +10,7 @@ use lib.Dec.{ltb}
 use lib.ListN.{length}
 use Rattle.core.specs.Cores.{withClock}
 use Rattle.core.specs.Progress.{Progress, starting}
-use Rattle.core.specs.WholeInstructions.{seen, joined, mayGoOn, instructionsOn}
+use Rattle.core.specs.WholeInstructions.{seen, joined, hasRoom, instructionsOn}
 use Rattle.core.specs.declared.Core.{Core}
 use Rattle.core.specs.declared.Working.{Working}
 use Rattle.core.proofs.Cycles.{cost-range}
@@ -95,7 +95,7 @@ loop-again c =
       rest =
           i .rest
           ∙ ap (λ (n : ℕ). instructionsOn n (a .b) (under (a .self) (l .state) (l .regs) (l .memory) (a .b) (a .most - l .more))) more
-          ∙ next-one _ (a .b) _ _ (ap (mayGoOn (l .state .stop)) same ∙ goes .0) next;
+          ∙ next-one _ (a .b) _ _ (ap (hasRoom (l .state .stop)) same ∙ goes .0) next;
       some = omega (arith, i .some);
       size = ap length (done .2) ∙ memory-length (l .memory) (seen (l .state) (l .regs)) ∙ i .size;
       bank = ap length (done .1) ∙ bank-length (l .memory) (l .regs) (l .state) ∙ i .bank;
@@ -125,7 +125,7 @@ returns c =
     let n = l .loop .more in
     let p = under (a .self) s (l .loop .regs) (l .loop .memory) (a .b) (a .most - n) in
     let test = sym (c .before .before .before .may-go-on .ensures) ∙ c .before .before .if1 .left in
-    let over = none-asked n (a .b) p (ap (λ (left : ℕ). cond (mayGoOn (s .stop) left) (ltb 0 n) false) same ∙ test) in
+    let over = none-asked n (a .b) p (ap (λ (left : ℕ). cond (hasRoom (s .stop) left) (ltb 0 n) false) same ∙ test) in
     (λ j. record { core = core j; memory = l .loop .memory; used = a .b - s .left .0; finished = a .most - n })
     ∙ sym (i .rest ∙ over)
 

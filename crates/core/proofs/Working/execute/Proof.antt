@@ -2,7 +2,7 @@
 use mathlib.Core.Path.{ap, _∙_}
 use Rattle.effects.specs.Cycles.{wholeInstruction}
 use Rattle.core.specs.Cores.{register}
-use Rattle.core.specs.WholeInstructions.{beforeOf}
+use Rattle.core.specs.WholeInstructions.{effectBeforeOf}
 use borrow.Author.Needs.{needs}
 use Rattle.core.proofs.Working.execute.Statement.{statement}
 use Rattle.core.proofs.Working.execute.Tie as tie
@@ -15,7 +15,7 @@ returns c =
     let ra = l .before .before .register-of .ensures ∙ ap (register regs) (l .before .before .before .field-a .ensures) in
     let rb = l .register-of2 .ensures ∙ ap (register regs) (l .before .field-b .ensures) in
     let rt = c .before .before .before .register-of3 .ensures ∙ ap (register regs) (c .before .before .before .before .field-t .ensures) in
-    let before = c .before .before .before2 .ensures ∙ ap (beforeOf (a .self)) rt in
+    let before = c .before .before .before2 .ensures ∙ ap (effectBeforeOf (a .self)) rt in
     c .execute .ensures ∙ (λ j. wholeInstruction (a .kind) (a .word) (ra j) (rb j) (a .self .hidden) (a .memory .now) (before j))
 
 pub execute-spec : {M : Type 1} → statement M

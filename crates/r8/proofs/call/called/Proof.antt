@@ -1,7 +1,8 @@
 -- `r8::call::called` meets its contract: by its code. Where it is 0 the call is made on the core of the numbers. Assumes nothing.
 use mathlib.Core.Path.{_∙_}
 use borrow.Author.Needs.{needs}
-use Rattle.r8.specs.Call.{Slices, slices, onCore}
+use Rattle.r8.specs.Call.{Slices, slices}
+use Rattle.r8.specs.CallParts.{callOf}
 use Rattle.r8.proofs.Calls.{taken, refused, answered}
 use Rattle.r8.proofs.call.called.Statement.{statement}
 use Rattle.r8.proofs.call.called.Tie as tie
@@ -10,7 +11,7 @@ returns : tie.Need-returns
 returns c =
     let a = c .before .before .before .before .before .before .before .before .before .args in
     let x : Slices = slices (a .registers .now) (a .state .now) (a .memory .now) (a .answer .now) in
-    refused (onCore (a .asked)) x _ (c .before .code-of .ensures) (c .if1 .taken)
+    refused (callOf (a .asked)) x _ (c .before .code-of .ensures) (c .if1 .taken)
 
 core-of-requires : tie.Need-core-of-requires
 core-of-requires c κs =
@@ -33,7 +34,7 @@ returns-2 c =
     let x : Slices = slices (a .registers .now) (a .state .now) (a .memory .now) (a .answer .now) in
     let put = c .before .before .before .before .before .before .put .ensures in
     (λ j. (0, slices (put .0 j) (put .1 j) (made .on-core .last .1 .1 .0) (put .2 j)))
-    ∙ answered (onCore (a .asked)) x _ (test .before .code-of .ensures) _ _ (test .if1 .left) (core .core-of .ensures) (made .on-core .ensures)
+    ∙ answered (callOf (a .asked)) x _ (test .before .code-of .ensures) _ _ (test .if1 .left) (core .core-of .ensures) (made .on-core .ensures)
 
 pub called-spec : {M : Type 1} → statement M
 called-spec =

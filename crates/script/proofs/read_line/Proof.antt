@@ -1,9 +1,9 @@
--- `script::read_turn` meets its contract. Assumes nothing.
+-- `script::read_line` meets its contract. Assumes nothing.
 use native.Mathlib.Omega.{arith}
 use borrow.Author.Needs.{needs}
 use Rattle.script.proofs.Turns.{line-within, line-taken, line-turn}
-use Rattle.script.proofs.read_turn.Statement.{statement}
-use Rattle.script.proofs.read_turn.Tie as tie
+use Rattle.script.proofs.read_line.Statement.{statement}
+use Rattle.script.proofs.read_line.Tie as tie
 
 slice-aggregate-read-command : tie.Need-slice-aggregate-read-command
 slice-aggregate-read-command c =
@@ -29,8 +29,8 @@ returns c =
       (omega arith, (omega (arith, line-within text (start .at) long), omega arith)),
     )
 
-pub read-turn-spec : {M : Type 1} → statement M
-read-turn-spec =
+pub read-line-spec : {M : Type 1} → statement M
+read-line-spec =
     tie.close
     (tie.spec
     (λ c. search needs) (λ c. search needs) (λ c. search needs) (λ c κs. search needs)
