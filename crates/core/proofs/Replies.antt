@@ -63,7 +63,7 @@ applied-length (Word address word) memory = length-set memory address word
 -- what a view's number says of the cycle due
 pub one-when : (one : Bool) → viewNumber one ≡ 0 → one ≡ true
 unfolding viewNumber
-one-when one e = not-false one (none-applies 6 (not one) [] e .0)
+one-when one e = not-false one (none-applies 6 (not one) _ e .0)
 
 pub other-when : (one : Bool) (why : Refusal) → refusalNumber why ≡ viewNumber one → one ≡ false
 unfolding viewNumber firstNumber

@@ -166,7 +166,7 @@ others-taken core memory text = (
       ),
   λ taken. let none = none-found _ (viewNumbers core) (view-mean core memory) taken in
       let own = reply-own _ core memory (viewedReply core memory) none in
-      let due = due-when-one core (not-false (dueOne core) (none-applies 6 (not (dueOne core)) [] none .0)) in (
+      let due = due-when-one core (not-false (dueOne core) (none-applies 6 (not (dueOne core)) _ none .0)) in (
         ap (λ (r : Reply). r .answer) own ∙ ap (λ (n : ℕ). viewed (visibleOf core) n (core .clock .0)) due,
         ap (λ (r : Reply). r .memory) own,
         ap (λ (r : Reply). r .core) own,

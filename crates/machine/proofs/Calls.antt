@@ -86,7 +86,7 @@ module _ (c : Core) (m : Machine) (log : List Logged) (r : Related c m log) wher
   load-same text =
       unless-same c m log _ _ _ _ (ap (loadNumber (length (m .memory))) (due-one (seen r))) r
       λ e. let past = none-applies 0 (wrongLength (length (m .memory))) _ e .1 in
-      let none = none-spent m (rw (due-one (seen r)) at (none-applies 6 (not (dueOne c)) [] past .0)) in
+      let none = none-spent m (rw (due-one (seen r)) at (none-applies 6 (not (dueOne c)) _ past .0)) in
       let total = r .total in
       record {
         answer = refl;
@@ -98,7 +98,7 @@ module _ (c : Core) (m : Machine) (log : List Logged) (r : Related c m log) wher
   unfolding core.view machine.view viewNumber
   view-same =
       unless-same c m log _ _ _ _ (ap viewNumber (due-one (seen r))) r
-      λ e. let none = none-spent m (rw (due-one (seen r)) at (none-applies 6 (not (dueOne c)) [] e .0)) in
+      λ e. let none = none-spent m (rw (due-one (seen r)) at (none-applies 6 (not (dueOne c)) _ e .0)) in
       let visible = visible-same r none in
       let due = due-of-spent c (seen r .due) ∙ ap (λ (n : ℕ). n + 1) (seen r .spent) in
       let clock = seen r .clock in
