@@ -52,7 +52,7 @@ fn put_view(page: &mut [u8; 8192], from: usize, numbers: &[u64]) -> usize
     at = output::put_word(page, at, b" SP ", word(numbers[18]));
     at = put_flags(page, at, numbers[19]);
     at = put_stop(page, at, numbers[20]);
-    output::put_named(page, at, b" clock ", numbers[22])
+    output::put_number(page, at, b" clock ", numbers[22])
 }
 
 // An answer's 23 numbers, the case first.
@@ -64,7 +64,7 @@ fn put_answer(page: &mut [u8; 8192], from: usize, numbers: &[u64]) -> usize
         return output::put(page, from, b"reset");
     }
     if kind == 1 {
-        return output::put_named(page, from, b"stored ", numbers[1]);
+        return output::put_number(page, from, b"stored ", numbers[1]);
     }
     if kind == 2 {
         return put_run(page, from, numbers);
@@ -72,11 +72,11 @@ fn put_answer(page: &mut [u8; 8192], from: usize, numbers: &[u64]) -> usize
     if kind == 3 {
         return put_view(page, from, numbers);
     }
-    let at = output::put_named(page, from, b"refused ", numbers[1]);
+    let at = output::put_number(page, from, b"refused ", numbers[1]);
     if kind == 4 {
         return at;
     }
-    output::put_named(page, at, b" at ", numbers[2])
+    output::put_number(page, at, b" at ", numbers[2])
 }
 
 // Writes a line for each answer.
@@ -94,7 +94,7 @@ fn write_answers(answers: &[u64]) {
 
 fn write_line(before: &[u8], n: usize, after: &[u8]) {
     let mut page = [0u8; 8192];
-    let mut at = output::put_named(&mut page, 0, before, n as u64);
+    let mut at = output::put_number(&mut page, 0, before, n as u64);
     at = output::put(&mut page, at, after);
     output::write_page(&page, at);
 }

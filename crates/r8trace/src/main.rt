@@ -48,13 +48,13 @@ fn write_trace(rows: &[u64; 2000], cycles: Cycles, instructions: Instructions, e
 
 fn write_refusal(fault: Fault, offset: usize) {
     let mut page = [0u8; 8192];
-    let mut at = output::put_named(
+    let mut at = output::put_number(
         &mut page,
         0,
         b"refused ",
         listing::fault_number(fault) as u64,
     );
-    at = output::put_named(&mut page, at, b" at ", offset as u64);
+    at = output::put_number(&mut page, at, b" at ", offset as u64);
     at = output::put(&mut page, at, b"\n");
     output::write_page(&page, at);
 }

@@ -6,14 +6,14 @@ use native.Mathlib.Omega.{arith}
 use borrow.Author.Needs.{needs}
 use lib.ListN.{length, take}
 use lib.Seq.{take-all}
-use Rattle.output.specs.Page.{PutOn}
+use Rattle.output.specs.Page.{pageAt, putOn}
 use Rattle.output.proofs.Stores.{put-one}
 use Rattle.output.proofs.put.Statement.{statement}
 use Rattle.output.proofs.put.Tie as tie
 
 record Reached (page₀ : List ℕ) (from : ℕ) (bytes page : List ℕ) (at i i-end : ℕ) : Type 0 where
   all : i-end ≡ length bytes
-  put : PutOn page₀ from (take i bytes) page at
+  put : pageAt page at ≡ putOn (pageAt page₀ from) (take i bytes)
 
 abbrev Inv-loop : tie.InvT-loop
 Inv-loop page₀ from bytes at₀ i₀ i-end page at i = Reached page₀ from bytes page at i i-end
@@ -22,7 +22,8 @@ abbrev μ-loop : tie.MeasureT-loop
 μ-loop page₀ from bytes at₀ i₀ i-end page at i = i-end - i
 
 loop-holds : tie.Need-loop-holds Inv-loop μ-loop
-loop-holds c = record { all = refl; put = record { stand = λ h. refl; place = λ h. omega arith } }
+unfolding putOn
+loop-holds c = record { all = refl; put = refl }
 
 loop-less : tie.Need-loop-less Inv-loop μ-loop
 loop-less c = omega arith
@@ -31,7 +32,7 @@ loop-again : tie.Need-loop-again Inv-loop μ-loop
 loop-again c =
     let l = c .before .before .before .before .loop in
     let bytes = c .before .before .before .before .before .before .args .bytes .now in
-    record { all = l .inv .all; put = put-one bytes (l .i) (l .inv .put) (search needs) (c .before .room .ensures .1) }
+    record { all = l .inv .all; put = put-one _ bytes (l .i) (l .inv .put) (search needs) (c .before .room .ensures .1) }
 
 returns : tie.Need-returns Inv-loop μ-loop
 returns c =

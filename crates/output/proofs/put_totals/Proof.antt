@@ -6,14 +6,14 @@ use Rattle.output.proofs.put_totals.Tie as tie
 
 returns : tie.Need-returns
 returns c =
-    let cycles = c .before .before .before .before .before .before .put-named .ensures in
-    let instructions = c .before .before .before .put-named2 .ensures in
+    let cycles = c .before .before .before .before .before .before .put-number .ensures in
+    let instructions = c .before .before .before .put-number2 .ensures in
     record {
       cyclesCount = cycles .count;
       cyclesFewest = cycles .fewest;
       instructionsCount = instructions .count;
       instructionsFewest = instructions .fewest;
-      put = put-both (put-both (cycles .put) (instructions .put)) (c .put .ensures);
+      put = put-both _ _ _ (put-both _ _ _ (cycles .put) (instructions .put)) (c .put .ensures);
     }
 
 pub put-totals-spec : {M : Type 1} → statement M

@@ -5,7 +5,7 @@ use Rattle.output.proofs.put_word.Statement.{statement}
 use Rattle.output.proofs.put_word.Tie as tie
 
 returns : tie.Need-returns
-returns c = rw (← c .before .before .word-text .ensures) (put-both (c .before .before .before .before .put .ensures) (c .put2 .ensures))
+returns c = rw (← c .before .before .word-text .ensures) (put-both _ _ _ (c .before .before .before .before .put .ensures) (c .put2 .ensures))
 
 pub put-word-spec : {M : Type 1} → statement M
 put-word-spec =
