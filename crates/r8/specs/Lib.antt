@@ -5,4 +5,3 @@ pub mod Call
 pub mod Replay
 pub mod Trace
 pub mod Theorems
-pub mod CallParts

@@ -3,11 +3,10 @@ ghost use mathlib.Core.Path.{_≡_};
 ghost use Prim.Native.Nat.{_≤_};
 ghost use lib.ListN.{length, take, getD};
 ghost use Rattle.core.specs.Calls.{run, step};
-ghost use Rattle.core.specs.Answers.{runAnswerOf, runGave};
+ghost use Rattle.core.specs.Answers.{runAnswerOf};
 ghost use Rattle.layout.specs.Layout.{flagsOf, answerNumbers, onto};
 ghost use Rattle.r8.specs.Numbers.{stopOf, hiddenOf, coreOf, registersOf, stateOf, isCore};
 ghost use Rattle.r8.specs.Call.{codeOf, slices, called};
-ghost use Rattle.r8.specs.CallParts.{callOf};
 use core::Core;
 use core::RunReply;
 use effects::Hidden;
@@ -141,41 +140,6 @@ fn put(reply: RunReply, registers: &mut [u16], state: &mut [u32], answer: &mut [
     layout::put(answer, numbers);
 }
 
-// What is asked of a core.
-enum Asked {
-    Run(u32),
-    Step,
-}
-
-fn on_core(asked: Asked, core: Core, memory: &mut [u16]) -> RunReply
-    ensures { λ r. ⌜ runGave r (now (memory .exit)) ≡ callOf asked core (now (memory .entry)) ⌝ }
-{
-    match asked {
-        Asked::Run(b) => core.run(b, memory),
-        Asked::Step => core.step(memory),
-    }
-}
-
-// On the core that the numbers are, where the code is 0.
-fn called(
-    asked: Asked,
-    registers: &mut [u16],
-    state: &mut [u32],
-    memory: &mut [u16],
-    answer: &mut [u64],
-) -> u32
-    ensures { λ r. ⌜ (r, slices (now (registers .exit)) (now (state .exit)) (now (memory .exit)) (now (answer .exit))) ≡ called (callOf asked) (slices (now (registers .entry)) (now (state .entry)) (now (memory .entry)) (now (answer .entry))) ⌝ }
-{
-    let code = code_of(registers, state, answer);
-    if code != 0 {
-        return code;
-    }
-    let core = core_of(registers, state);
-    let reply = on_core(asked, core, memory);
-    put(reply, registers, state, answer);
-    0
-}
-
 // b datapath cycles, fewer if the core stops.
 #[no_mangle]
 pub extern "C" fn r8_run(
@@ -187,7 +151,13 @@ pub extern "C" fn r8_run(
 ) -> u32
     ensures { λ r. ⌜ (r, slices (now (registers .exit)) (now (state .exit)) (now (memory .exit)) (now (answer .exit))) ≡ called (run b) (slices (now (registers .entry)) (now (state .entry)) (now (memory .entry)) (now (answer .entry))) ⌝ }
 {
-    called(Asked::Run(b), registers, state, memory, answer)
+    let code = code_of(registers, state, answer);
+    if code != 0 {
+        return code;
+    }
+    let reply = core_of(registers, state).run(b, memory);
+    put(reply, registers, state, answer);
+    0
 }
 
 // One instruction by the instruction engine.
@@ -200,5 +170,11 @@ pub extern "C" fn r8_step(
 ) -> u32
     ensures { λ r. ⌜ (r, slices (now (registers .exit)) (now (state .exit)) (now (memory .exit)) (now (answer .exit))) ≡ called step (slices (now (registers .entry)) (now (state .entry)) (now (memory .entry)) (now (answer .entry))) ⌝ }
 {
-    called(Asked::Step, registers, state, memory, answer)
+    let code = code_of(registers, state, answer);
+    if code != 0 {
+        return code;
+    }
+    let reply = core_of(registers, state).step(memory);
+    put(reply, registers, state, answer);
+    0
 }

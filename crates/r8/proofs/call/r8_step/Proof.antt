@@ -1,17 +1,17 @@
--- `r8::call::called` meets its contract: by its code. Where it is 0 the call is made on the core of the numbers. Assumes nothing.
+-- `r8::call::r8_step` meets its contract: by its code. Where it is 0 the call is made on the core of the numbers. Assumes nothing.
 use mathlib.Core.Path.{_∙_}
 use borrow.Author.Needs.{needs}
+use Rattle.core.specs.Calls.{step}
 use Rattle.r8.specs.Call.{Slices, slices}
-use Rattle.r8.specs.CallParts.{callOf}
 use Rattle.r8.proofs.Calls.{taken, refused, answered}
-use Rattle.r8.proofs.call.called.Statement.{statement}
-use Rattle.r8.proofs.call.called.Tie as tie
+use Rattle.r8.proofs.call.r8_step.Statement.{statement}
+use Rattle.r8.proofs.call.r8_step.Tie as tie
 
 returns : tie.Need-returns
 returns c =
     let a = c .before .before .before .before .before .before .before .before .before .args in
     let x : Slices = slices (a .registers .now) (a .state .now) (a .memory .now) (a .answer .now) in
-    refused (callOf (a .asked)) x _ (c .before .code-of .ensures) (c .if1 .taken)
+    refused step x _ (c .before .code-of .ensures) (c .if1 .taken)
 
 core-of-requires : tie.Need-core-of-requires
 core-of-requires c κs =
@@ -33,11 +33,11 @@ returns-2 c =
     let a = test .before .before .before .before .before .before .before .before .before .args in
     let x : Slices = slices (a .registers .now) (a .state .now) (a .memory .now) (a .answer .now) in
     let put = c .before .before .before .before .before .before .put .ensures in
-    (λ j. (0, slices (put .0 j) (put .1 j) (made .on-core .last .1 .1 .0) (put .2 j)))
-    ∙ answered (callOf (a .asked)) x _ (test .before .code-of .ensures) _ _ (test .if1 .left) (core .core-of .ensures) (made .on-core .ensures)
+    (λ j. (0, slices (put .0 j) (put .1 j) (made .step .last .1 .0) (put .2 j)))
+    ∙ answered step x _ (test .before .code-of .ensures) _ _ (test .if1 .left) (core .core-of .ensures) (made .step .ensures)
 
-pub called-spec : {M : Type 1} → statement M
-called-spec =
+pub r8-step-spec : {M : Type 1} → statement M
+r8-step-spec =
     tie.close
     (tie.spec
     (λ c κs. search needs) (λ c. search needs) (λ c. search needs) (λ c. search needs)
