@@ -1,4 +1,4 @@
--- Laws for the code of the calls: the reply that a number makes, and a turn of a run's loop.
+-- Laws for the code of the calls: the reply that a number makes, and where a call starts.
 use mathlib.Core.Path.{_≡_, refl, sym, ap, _∙_}
 use mathlib.Core.Bool.{Bool, true, false, cond, not}
 use mathlib.Core.List.{List, []}

@@ -95,11 +95,11 @@ raOf w regs = register regs (fieldA w)
 abbrev pub rbOf : Kind → ℕ → List ℕ → ℕ
 rbOf kind w regs = register regs (secondRegister kind (fieldT w) (fieldB w))
 
--- what the instruction w can change of it; Rt is the register that the field t of w names
+-- what the instruction w can change of what it sees, as it is before; Rt is the register that the field t of w names
 abbrev pub effectBefore : ℕ → Visible → Effect
 effectBefore w v = untouched (register (v .regs) (fieldT w)) (v .pc) (v .sp) (v .flags) (v .stop)
 
--- it, after an effect of the instruction w
+-- what it sees, after its effect
 abbrev pub changed : ℕ → Effect → Visible → Visible
 changed w effect v =
     visible (set (v .regs) (fieldT w) (effect .rt)) (effect .pc) (effect .sp) (effect .flags) (effect .stop)

@@ -21,7 +21,7 @@ pub record Progress : Type 0 where
 abbrev pub starting : Core → List ℕ → Progress
 starting core memory = record { core = core; memory = memory; used = 0; finished = 0 }
 
--- p after one cycle
+-- p after a cycle that gave this transition; and after the cycle due
 abbrev pub afterCycle : Transition → Progress → Progress
 afterCycle transition p =
     record {

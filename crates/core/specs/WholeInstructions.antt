@@ -70,8 +70,8 @@ bankOn M regs s = set regs (fieldT (wordDue M (seen s regs))) (doneOn M regs s .
 abbrev pub hasRoom : Stop → ℕ → Bool
 hasRoom stop left = cond (isGoing stop) (leb longest left) false
 
--- at most n instructions, each where the core is going and b has room for one. With b for n there is no other bound, since each takes 2 cycles
--- or more
+-- at most n instructions, each where the core is going and what is left of b has room for one. With b for n there is no other bound, since each
+-- takes 2 cycles or more
 unfoldable pub instructionsOn : ℕ → ℕ → Progress → Progress
 instructionsOn zero b p = p
 instructionsOn (suc n) b p = cond (hasRoom (p .core .stop) (b - p .used)) (instructionsOn n b (instructionOn p)) p

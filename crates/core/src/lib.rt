@@ -55,7 +55,7 @@ pub struct Core {
     pub clock: Cycles,
 }
 
-// A core after a cycle, whether that finished an instruction, and the store that is to be made, if any.
+// A core after a cycle (or after none), whether that finished an instruction, and the store that is to be made, if any.
 pub struct Transition {
     pub core: Core,
     pub finished: bool,

@@ -1,3 +1,3 @@
--- What the contracts of `hex` cite.
+-- What the contracts of `hex` cite, and the theorems about it.
 pub mod Digits
 pub mod Theorems

@@ -1,4 +1,4 @@
--- What the contracts of `lines` cite.
+-- What the contracts of `lines` cite, and the theorems about it.
 pub mod Lines
 pub mod Comment
 pub mod LineReader

@@ -1,4 +1,4 @@
-// A listing's lines: what a line says, and the comment call.
+// A listing's lines: what a line says, how long it is and how it ends, and the comment call.
 ghost use mathlib.Core.Path.{_≡_};
 ghost use mathlib.Core.Bool.{true};
 ghost use Prim.Native.Nat.{_+_, _≤_, min};

@@ -17,8 +17,8 @@ use Rattle.script.specs.declared.ScriptAnswer.the-variants as answer
 abbrev pub scriptAt : List ℕ → LineStart → Script
 scriptAt text start = scriptFrom (start .place) (start .number) (start .at) (lines (drop (start .at) text))
 
--- a start that a line of a text can have: one past its end at most, as the last line may lack its LF; and every line before it took a
--- byte or more
+-- a start that reading comes to: of a line, or past the text's end, by one at most, as the last line may lack its LF; and every line before
+-- it took a byte or more
 abbrev pub Within : List ℕ → LineStart → Type 0
 Within text start = (start .at ≤ length text + 1) × (start .number ≤ start .at + 1)
 
