@@ -11,3 +11,4 @@ pub mod Endings
 pub mod Taken
 pub mod Replies
 pub mod Again
+pub mod Apart

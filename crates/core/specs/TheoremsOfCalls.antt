@@ -1,15 +1,18 @@
 -- What the calls come to, for every core and memory: when a call is refused, and that it then changes nothing; what it does where it is
--- taken. Seven statements, proved in proofs/Refusals.antt, proofs/Taken.antt and
--- proofs/Again.antt.
+-- taken; and that different answers are read differently. Eight statements, proved in proofs/Refusals.antt, proofs/Taken.antt,
+-- proofs/Again.antt and proofs/Apart.antt.
 use mathlib.Core.Path.{_≡_}
 use mathlib.Core.Logic.{_↔_, _⊎_}
 use mathlib.Core.Bool.{false}
 use mathlib.Core.List.{List, [], _∷_}
 use Prim.Native.Nat.{ℕ, _+_, _≤_, _<_}
 use lib.ListN.{length}
+use Rattle.refusals.specs.Refusals.{refusalNumber}
 use Rattle.refusals.specs.Theorems.{First, NoneApplies}
+use Rattle.refusals.specs.declared.Refusal.{Refusal}
 use Rattle.listing.specs.Answers as listing
 use Rattle.listing.specs.Listing.{listingAnswer, listingMemory}
+use Rattle.listing.specs.declared.Fault.{Fault}
 use Rattle.effects.specs.declared.Stop.the-variants.{Going, Halted, Undefined}
 use Rattle.effects.specs.declared.Store.the-variants.{Nothing}
 use Rattle.effects.specs.Hidden.{noHidden}
@@ -17,10 +20,16 @@ use Rattle.core.specs.Cores.{freshCore, withHidden, visibleOf}
 use Rattle.core.specs.Instruction.{takes}
 use Rattle.core.specs.Progress.{starting, afterCycle}
 use Rattle.core.specs.Calls.{Answer, done, stored, ran, viewed, refused, refusedAt, Reply, reset, load, view, ranReply, run, step}
+use Rattle.core.specs.Answers.{loadAnswerOf, runAnswerOf, viewAnswerOf}
 use Rattle.core.specs.Datapath.{dueCycle, cycleOrIdle}
 use Rattle.core.specs.declared.Core.{Core}
 use Rattle.core.specs.declared.End.{End}
 use Rattle.core.specs.declared.End.the-variants.{H, U, B, M}
+use Rattle.core.specs.declared.LoadAnswer.{LoadAnswer}
+use Rattle.core.specs.declared.RunAnswer.{RunAnswer}
+use Rattle.core.specs.declared.ViewAnswer.{ViewAnswer}
+use Rattle.core.specs.declared.ViewAnswer.the-variants.{Viewed}
+use Rattle.core.specs.declared.Snapshot.{Snapshot}
 
 -- '1: L is 0 or above 65,536'; '8: stopped'; '7: cycle due is not 1'
 abbrev pub WrongLength : List ℕ → Type 0
@@ -169,3 +178,13 @@ OthersTaken =
     × (reset core memory .answer ≡ done)
     × (reset core memory .core ≡ freshCore)
     × (reset core memory .memory ≡ memory)
+
+-- 'this paper's number and values for each of its cases': different answers of a load, of a run or a step, and of a view are read
+-- differently; and no refusal has a fault's number, so that a number says what it means by itself. What a refused view shows is no part of
+-- its answer: the contract of view says it (proved as `read-apart`)
+abbrev pub ReadApart : Type 0
+ReadApart =
+    ((x y : LoadAnswer) → loadAnswerOf x ≡ loadAnswerOf y → x ≡ y)
+    × ((x y : RunAnswer) → runAnswerOf x ≡ runAnswerOf y → x ≡ y)
+    × ((a b : ViewAnswer) (s t : Snapshot) → viewAnswerOf a s ≡ viewAnswerOf b t → (a ≡ b) × (a ≡ Viewed → s ≡ t))
+    × ((why : Refusal) (fault : Fault) → refusalNumber why ≡ listing.faultNumber fault → ⊥)

@@ -10,9 +10,7 @@ use lib.Seq.{drop-cons}
 use Rattle.effects.specs.declared.Stop.{Stop}
 use Rattle.effects.specs.declared.Stop.the-variants.{Going, Halted, Undefined}
 use Rattle.core.specs.Calls.{Answer, done, stored, ran, viewed, refused, refusedAt}
-use Rattle.core.specs.declared.End.{End}
-use Rattle.core.specs.declared.End.the-variants.{H, U, B, M}
-use Rattle.text.specs.Text.{letterText}
+use Rattle.text.proofs.Apart.{endFrom, end-back}
 use Rattle.layout.specs.Layout.{flagsOf, stopNumber, bankNumbers, answerNumbers}
 use Rattle.layout.specs.Theorems.{AnswerSize, Whole, AnswersApart}
 use Rattle.layout.proofs.Sizes.{numbers-size}
@@ -21,16 +19,7 @@ use Rattle.layout.proofs.Back.{flags-back}
 pub answer-size : AnswerSize
 answer-size = numbers-size
 
--- the end of a letter, and the stop state of a number
-abbrev endOf : ℕ → End
-endOf n = cond (eqb n 72) H (cond (eqb n 85) U (cond (eqb n 66) B M))
-
-end-back : (end : End) → endOf (letterText end) ≡ end
-end-back H = refl
-end-back U = refl
-end-back B = refl
-end-back M = refl
-
+-- the stop state of a number
 abbrev stopOf : ℕ → Stop
 stopOf n = cond (eqb n 0) Going (cond (eqb n 1) Halted Undefined)
 
@@ -58,7 +47,7 @@ answerOf l =
     let case = getD l 0 0 in
     cond (eqb case 0) done
     (cond (eqb case 1) (stored (getD l 1 0))
-    (cond (eqb case 2) (ran (getD l 1 0) (getD l 2 0) (endOf (getD l 3 0)))
+    (cond (eqb case 2) (ran (getD l 1 0) (getD l 2 0) (endFrom (getD l 3 0)))
     (cond (eqb case 3)
     (viewed
     (record {

@@ -6,3 +6,4 @@ pub mod Stores
 pub mod Theorems
 pub mod Numbers
 pub mod Counts
+pub mod Apart

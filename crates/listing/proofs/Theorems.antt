@@ -1,4 +1,4 @@
--- The theorems of specs/Theorems.antt; `numbers` is in Numbers. Assumes nothing.
+-- The theorems of specs/Theorems.antt; `numbers` is in Numbers, `faults-apart` in Apart. Assumes nothing.
 use mathlib.Core.Path.{_≡_, refl, sym, ap, _∙_}
 use mathlib.Core.List.{List, []}
 use Prim.Native.Nat.{ℕ}

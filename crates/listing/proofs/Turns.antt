@@ -16,6 +16,7 @@ use Rattle.listing.specs.declared.Fault.{Fault}
 use Rattle.listing.proofs.Faults.{Sound, then}
 use Rattle.listing.specs.Listing.{lowestAfter, faultOf, sound, faulty, firstFault, wordsOf, wordsIn, storeLine, storeLines}
 
+-- 0 is no fault's number
 pub numbered : (fault : Fault) → faultNumber fault ≡ 0 → ⊥
 numbered Fault.IllFormed e = omega (arith, e)
 numbered Fault.NotAbove e = omega (arith, e)

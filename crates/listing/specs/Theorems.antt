@@ -1,5 +1,5 @@
--- What holds of every listing and memory: nine statements, proved in proofs/Theorems.antt and
--- proofs/Numbers.antt.
+-- What holds of every listing and memory, and that different answers are read differently: ten statements, proved in proofs/Theorems.antt,
+-- proofs/Numbers.antt and proofs/Apart.antt.
 use mathlib.Core.Path.{_≡_}
 use mathlib.Core.Logic.{_↔_, _⊎_}
 use mathlib.Core.List.{List, [], _∷_}
@@ -9,8 +9,10 @@ use Rattle.words.specs.Memory.{wordAt}
 use Rattle.lines.specs.Lines.{lines, readLine}
 use Rattle.lines.specs.Theorems.{lineAt, startAt}
 use Rattle.lines.specs.declared.Line.the-variants.{Entry, IllFormed}
-use Rattle.listing.specs.Answers.{stored, refused}
+use Rattle.listing.specs.Answers.{stored, refused, faultNumber, storeAnswer}
 use Rattle.listing.specs.Listing.{lowestAfter, faultOf, wordsIn, listingAnswer, listingMemory}
+use Rattle.listing.specs.declared.Fault.{Fault}
+use Rattle.listing.specs.declared.StoreAnswer.{StoreAnswer}
 
 -- the lowest address that the line after some lines may say
 unfoldable pub lowestOf : List (List ℕ) → ℕ → ℕ
@@ -98,3 +100,10 @@ StoredTwice =
     (listing memory : List ℕ)
     → (listingMemory listing (listingMemory listing memory) ≡ listingMemory listing memory)
     × (listingAnswer listing (length (listingMemory listing memory)) ≡ listingAnswer listing (length memory))
+
+-- 'this paper's number and values for each of its cases': each fault has its own number, and different answers of a store are read
+-- differently (proved as `faults-apart`)
+abbrev pub FaultsApart : Type 0
+FaultsApart =
+    ((x y : Fault) → faultNumber x ≡ faultNumber y → x ≡ y)
+    × ((x y : StoreAnswer) → storeAnswer x ≡ storeAnswer y → x ≡ y)

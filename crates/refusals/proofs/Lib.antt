@@ -1,2 +1,3 @@
--- Laws on the first number that applies, and on the tests that need no core.
+-- Laws on the first number that applies, and on the tests that need no core; and a refusal read back from its number.
 pub mod First
+pub mod Apart

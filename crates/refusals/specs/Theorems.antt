@@ -1,10 +1,12 @@
--- What the number 1 and 'the first that applies' mean: two statements, proved in proofs/First.antt.
+-- What the number 1 and 'the first that applies' mean, and that no two refusals have one number: three statements, proved in proofs/First.antt
+-- and proofs/Apart.antt.
 use mathlib.Core.Path.{_≡_}
 use mathlib.Core.Logic.{_↔_, _⊎_}
 use mathlib.Core.Bool.{Bool, true, false}
 use mathlib.Core.List.{List, [], _∷_}
 use Prim.Native.Nat.{ℕ, _<_}
-use Rattle.refusals.specs.Refusals.{wrongLength, firstNumber}
+use Rattle.refusals.specs.Refusals.{refusalNumber, wrongLength, firstNumber}
+use Rattle.refusals.specs.declared.Refusal.{Refusal}
 
 -- of some numbers in their order, n is the first that applies; and none does: the call is taken (a load then comes to its
 -- lines, which may still refuse it)
@@ -35,3 +37,7 @@ abbrev pub FirstExactly : Type 1
 FirstExactly =
     (tests : List (ℕ × Bool)) (numbers : List (ℕ × Type 0)) → MeanAll tests numbers
     → (n : ℕ) → ((firstNumber tests ≡ n) × (n ≡ 0 → ⊥)) ↔ First n numbers
+
+-- 'this paper's number .. for each of its cases': each has its own, so that the number says which it is (proved as `numbers-apart`)
+abbrev pub NumbersApart : Type 0
+NumbersApart = (x y : Refusal) → refusalNumber x ≡ refusalNumber y → x ≡ y

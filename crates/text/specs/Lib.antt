@@ -1,2 +1,3 @@
--- How flags, end letters and the lines of a trace are written.
+-- How flags, end letters and the lines of a trace are written, and the theorems about it.
 pub mod Text
+pub mod Theorems

@@ -1,0 +1,2 @@
+-- The theorems of `text`, and an end read back from its letter.
+pub mod Apart

@@ -1,0 +1,13 @@
+-- Different flags and ends are written differently: two statements, proved in proofs/Apart.antt.
+use mathlib.Core.Path.{_≡_}
+use Rattle.isa.specs.declared.Flags.{Flags}
+use Rattle.core.specs.declared.End.{End}
+use Rattle.text.specs.Text.{flagsText, letterText}
+
+-- 'the end: H halted, U undefined, B cycle 1 due, M otherwise': a letter says which end it is (proved as `letters-apart`)
+abbrev pub LettersApart : Type 0
+LettersApart = (x y : End) → letterText x ≡ letterText y → x ≡ y
+
+-- 'NZCV is written as four bits': they say all four flags (proved as `flags-apart`)
+abbrev pub FlagsApart : Type 0
+FlagsApart = (x y : Flags) → flagsText x ≡ flagsText y → x ≡ y
