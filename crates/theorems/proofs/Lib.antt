@@ -1,0 +1,2 @@
+-- Every theorem, with its proof.
+pub mod Theorems
