@@ -28,12 +28,16 @@ extern "C" {
 #define R8_REFUSED 4    /* number 1, 7, 8 or 9 */
 #define R8_REFUSED_AT 5 /* number 2, 3 or 4, then where the faulty line starts, counted from the start of what was to be loaded */
 
+/* What a list of calls left, as 23 numbers laid out as R8_VIEWED is, with the cycles spent in an unfinished instruction, 0 to 3, for the
+ * cycle due. Where some are spent, R0 to R15, PC, SP and 8N+4Z+2C+V are 0. */
+#define R8_LEFT 6
+
 /* Plays calls on a fresh core and the lent memory, one after the other, refused ones too, and writes the answer of each from answers[0]
- * on; what is past them stays. A memory of 0 or of more than 65,536 words is taken: its loads, runs and steps answer number 1.
+ * on, and behind them what the list left; what is past that stays. A memory of 0 or of more than 65,536 words is taken: its loads, runs and steps answer number 1.
  * Returns 0, and *at is how many calls were played; or, with *at the index, from 0, of the first faulty call,
  *   1 where that is no call: its case is above 4, its budget above 4,294,967,295, or fewer than three numbers are left;
  *   2 where it is a load of no stretch of the text: first is above second, or second above text_count;
- * or 3, with 0 in *at, where the answers are shorter than 23 numbers a call. 1 and 2 come before 3. */
+ * or 3, with 0 in *at, where the answers are shorter than 23 numbers a call and 23 more. 1 and 2 come before 3. */
 uint32_t r8_replay(const uint64_t *calls, size_t calls_count, const uint8_t *text, size_t text_count,
                    uint16_t *memory, size_t memory_count, uint64_t *answers, size_t answers_count, uint64_t *at);
 

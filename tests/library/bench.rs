@@ -5,7 +5,7 @@ mod library;
 #[path = "plain.rs"]
 mod plain;
 
-use library::{answer_of, registers_of, state_of, ANSWER, CALL, LOAD, RUN};
+use library::{answer_of, left_of, registers_of, state_of, ANSWER, CALL, LOAD, RUN};
 use plain::Core;
 use std::hint::black_box;
 use std::time::{Duration, Instant};
@@ -242,7 +242,7 @@ fn replay(text: &str, words: usize, runs: u32, budget: u32) -> [f64; 2] {
     time(
         || {
             let (mut memory, mut at) = (vec![0; words], 0);
-            let mut answers = vec![0; calls.len() / CALL * ANSWER];
+            let mut answers = vec![0; (calls.len() / CALL + 1) * ANSWER];
             let start = Instant::now();
             black_box(library::replay(
                 &calls,
@@ -255,13 +255,14 @@ fn replay(text: &str, words: usize, runs: u32, budget: u32) -> [f64; 2] {
         },
         || {
             let (mut memory, mut core) = (vec![0; words], Core::fresh());
-            let mut answers = Vec::with_capacity(calls.len() / CALL * ANSWER);
+            let mut answers = Vec::with_capacity((calls.len() / CALL + 1) * ANSWER);
             let start = Instant::now();
             let loaded = black_box(&mut core).load(black_box(text.as_bytes()), &mut memory);
             answers.extend(answer_of(&loaded));
             for _ in 0..runs {
                 answers.extend(answer_of(&core.run(black_box(budget), &mut memory)));
             }
+            answers.extend(left_of(&core));
             (start.elapsed(), (answers, memory))
         },
     )

@@ -139,6 +139,20 @@ fn stop_of(stop: Stop) -> u32 {
     }
 }
 
+/// What a list of calls left of a core, in 23 numbers.
+pub fn left_of(core: &Core) -> [u64; ANSWER] {
+    let spent = core.due as u64 - 1;
+    let mut numbers = [0; ANSWER];
+    numbers[0] = 6;
+    if spent == 0 {
+        let registers = registers_of(core).map(u64::from);
+        numbers[1..19].copy_from_slice(&registers[..18]);
+        numbers[19] = core.flags() as u64;
+    }
+    numbers[20..].copy_from_slice(&[stop_of(core.stop) as u64, spent, core.clock as u64]);
+    numbers
+}
+
 /// The 23 numbers of an answer.
 pub fn answer_of(answer: &Answer) -> [u64; ANSWER] {
     let mut numbers = [0; ANSWER];

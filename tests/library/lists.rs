@@ -105,7 +105,7 @@ fn draw_list(rng: &mut Rng) -> (List, Vec<u64>) {
             add([STEP, 0, 0], &mut core, &mut now);
         }
     }
-    let room = calls.len() / CALL * ANSWER + rng.pick(&[0, 0, 1, 22, 23, 50]);
+    let room = (calls.len() / CALL + 1) * ANSWER + rng.pick(&[0, 0, 1, 22, 23, 50]);
     (
         List {
             calls,
@@ -141,7 +141,7 @@ fn spoil(rng: &mut Rng, list: &mut List) {
         }
         _ => {
             let less = rng.pick(&[1, 2, 22, 23, 24, usize::MAX]);
-            list.room = (count * ANSWER).saturating_sub(less);
+            list.room = ((count + 1) * ANSWER).saturating_sub(less);
             return;
         }
     };
@@ -173,7 +173,7 @@ fn verdict(list: &List) -> (u32, u64, &'static str) {
         };
         return (code, at as u64, OUTCOMES[why]);
     }
-    match list.room < count * ANSWER {
+    match list.room < (count + 1) * ANSWER {
         true => (3, 0, OUTCOMES[5]),
         false => (0, count as u64, OUTCOMES[6]),
     }
@@ -185,15 +185,18 @@ fn compare_list(list: &List, cover: &mut Coverage) -> Result<(), String> {
     cover.note(why);
     let (mut core, mut memory) = (Core::fresh(), list.memory.clone());
     let mut answers = vec![MARK; list.room];
-    let mut played = 0;
+    let mut written = 0;
     if code == 0 {
         for (call, place) in list.calls.chunks(CALL).zip(answers.chunks_mut(ANSWER)) {
             let seen = |core: &Core| cover.finished(core);
             let answer = play(&mut core, call, &list.text, &mut memory, seen);
             cover.answer(call, &answer);
             place.copy_from_slice(&answer_of(&answer));
-            played += 1;
+            written += 1;
         }
+        cover.left(&core);
+        answers[written * ANSWER..][..ANSWER].copy_from_slice(&left_of(&core));
+        written += 1;
     }
     let (mut got_memory, mut got_at) = (list.memory.clone(), MARK);
     let mut got = vec![MARK; list.room];
@@ -209,7 +212,7 @@ fn compare_list(list: &List, cover: &mut Coverage) -> Result<(), String> {
         &[got_code as u64, got_at],
         &[code as u64, at],
     )?;
-    same_answers(&got, &answers, played)?;
+    same_answers(&got, &answers, written)?;
     same("memory", &got_memory, &memory)
 }
 
@@ -295,6 +298,8 @@ impl Coverage {
             "stack wrapped down",
             "stack wrapped up",
             "run of 4294967295 played",
+            "left between instructions",
+            "left in an instruction",
         ];
         let names = refusals
             .into_iter()
@@ -339,6 +344,13 @@ impl Coverage {
             }
             _ => {}
         }
+    }
+
+    fn left(&mut self, core: &Core) {
+        self.note(match core.due {
+            1 => "left between instructions",
+            _ => "left in an instruction",
+        });
     }
 
     /// c. Prints the counts; all must be above 0.

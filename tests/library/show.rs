@@ -21,7 +21,7 @@ pub fn same<T: PartialEq + Debug>(name: &str, got: &[T], want: &[T]) -> Result<(
     ))
 }
 
-/// The first `count` answers must be as expected, and what is past them the mark.
+/// The first `count` answers, what the list left among them, must be as expected, and what is past them the mark.
 pub fn same_answers(got: &[u64], want: &[u64], count: usize) -> Result<(), String> {
     let Some(at) = difference(got, want) else {
         return Ok(());
@@ -52,7 +52,7 @@ pub fn show_call(call: &[u64]) -> String {
     }
 }
 
-/// An answer in words; as numbers where it is none of the six.
+/// An answer, or what a list left, in words; as numbers where it is neither.
 pub fn show_answer(answer: &[u64]) -> String {
     let is = |case: u64, named: usize| answer[0] == case && answer[named..].iter().all(|&n| n == 0);
     match *answer {
@@ -64,10 +64,11 @@ pub fn show_answer(answer: &[u64]) -> String {
                 end as u8 as char
             )
         }
-        [3, ref r @ .., pc, sp, flags, stop, due, clock] => {
+        [case @ (3 | 6), ref r @ .., pc, sp, flags, stop, cycle, clock] => {
+            let (what, named) = [("", "due"), ("left ", "spent")][(case == 6) as usize];
             let r: String = r.iter().map(|word| format!(" {word:04X}")).collect();
-            let state = format!("NZCV {flags:04b} stop {stop} due {due} clock {clock}");
-            format!("R0 to R15{r} PC {pc:04X} SP {sp:04X} {state}")
+            let state = format!("NZCV {flags:04b} stop {stop} {named} {cycle} clock {clock}");
+            format!("{what}R0 to R15{r} PC {pc:04X} SP {sp:04X} {state}")
         }
         [_, number, ..] if is(4, 2) => format!("refused {number}"),
         [_, number, offset, ..] if is(5, 3) => format!("refused {number} at {offset}"),

@@ -47,7 +47,7 @@ length-stays (suc n) p = by (isGoing (p .core .stop)) refl (length-stays n (cycl
     by false g ih = rw (none-more (suc n) p g) refl
 
 -- a run that every number passes is its own reply
-run-passed : (b : ℕ) (core : Core) (memory : List ℕ) → wrongLength (length memory) ≡ false → isGoing (core .stop) ≡ true
+pub run-passed : (b : ℕ) (core : Core) (memory : List ℕ) → wrongLength (length memory) ≡ false → isGoing (core .stop) ≡ true
     → dueInRange core ≡ true → core .clock .0 + b ≤ 4294967295
     → run b core memory ≡ ranReply (cyclesOn b (starting core memory))
 unfolding run runNumber

@@ -14,7 +14,7 @@ ghost use Rattle.effects.specs.Effect.{applied};
 ghost use Rattle.effects.specs.Hidden.{noHidden};
 ghost use Rattle.effects.specs.Cycles.{stopOf};
 ghost use Rattle.core.specs.Cores.{freshCore, withHidden, stopped, visibleOf, register, effectBefore};
-ghost use Rattle.core.specs.Spent.{dueInRange, dueOne};
+ghost use Rattle.core.specs.Spent.{spentOf, dueInRange, dueOne};
 ghost use Rattle.core.specs.Datapath.{fetched, latched, second, withResult, third, withEffect, dueAfter, ticked, transition, idle, isLast, laterCycle, dueCycle, cycleOrIdle};
 ghost use Rattle.core.specs.Instruction.{memoryAfter};
 ghost use Rattle.core.specs.WholeInstructions.{workingFrom, seen, joined, effectBeforeOf, executedOf, workingAfter, workingOn, bankOn, hasRoom, instructionsOn, instructionsOrCycle, reached};
@@ -680,6 +680,16 @@ impl Core {
             return self.due <= 4;
         }
         false
+    }
+
+    // The cycles spent in an unfinished instruction, of a core that calls made of a fresh one.
+    pub fn spent(self) -> u8
+        ensures { λ r. ⌜ r ≡ spentOf self ⌝ }
+    {
+        if self.due == 0 {
+            return 0;
+        }
+        self.due - 1
     }
 
     fn snapshot(self) -> Snapshot

@@ -1,6 +1,6 @@
 -- Answers laid out as numbers, for lists of calls given as data and for other languages: 23 for each, the case first, then what it names,
 -- then zeros.
-use mathlib.Core.Bool.{Bool, cond}
+use mathlib.Core.Bool.{Bool, true, false, cond}
 use mathlib.Core.List.{List, [], _∷_, _++_}
 use Prim.Native.Nat.{ℕ, _+_, _-_, _*_, _/_, _%_}
 use lib.Dec.{eqb, leb}
@@ -9,7 +9,7 @@ use Rattle.words.specs.Arithmetic.{bit}
 use Rattle.isa.specs.declared.Flags.{Flags}
 use Rattle.effects.specs.declared.Stop.{Stop}
 use Rattle.effects.specs.declared.Stop.the-variants.{Going, Halted, Undefined}
-use Rattle.core.specs.Cores.{register}
+use Rattle.core.specs.Cores.{Visible, visible, register}
 use Rattle.core.specs.Calls.{Answer, done, stored, ran, viewed, refused, refusedAt, Reply}
 use Rattle.core.specs.declared.Core.{Core}
 use Rattle.text.specs.Text.{letterText}
@@ -57,18 +57,31 @@ bankNumbers regs =
     ∷ register regs 15
     ∷ []
 
+-- what is seen of a core, with its case, a number of a cycle and the clock
+abbrev pub seenNumbers : ℕ → Visible → ℕ → ℕ → List ℕ
+seenNumbers kind v cycle clock =
+    padded
+    (kind
+    ∷ (bankNumbers (v .regs)
+    ++ (v .pc ∷ v .sp ∷ flagsNumber (v .flags) ∷ stopNumber (v .stop) ∷ cycle ∷ clock ∷ [])))
+
 -- the answers of document 01's calls, in the order of `Answer`; an end letter is its ASCII code
 unfoldable pub answerNumbers : Answer → List ℕ
 answerNumbers done = padded (0 ∷ [])
 answerNumbers (stored count) = padded (1 ∷ count ∷ [])
 answerNumbers (ran cycles instructions end) = padded (2 ∷ cycles ∷ instructions ∷ letterText end ∷ [])
-answerNumbers (viewed v due clock) =
-    padded
-    (3
-    ∷ (bankNumbers (v .regs)
-    ++ (v .pc ∷ v .sp ∷ flagsNumber (v .flags) ∷ stopNumber (v .stop) ∷ due ∷ clock ∷ [])))
+answerNumbers (viewed v due clock) = seenNumbers 3 v due clock
 answerNumbers (refused number) = padded (4 ∷ number ∷ [])
 answerNumbers (refusedAt number offset) = padded (5 ∷ number ∷ offset ∷ [])
+
+-- what a list of calls left: 'the clock, the stop state and the cycles spent in an unfinished instruction, and between instructions R0
+-- to R15, PC, SP and flags', which are zero where an instruction is unfinished; laid out as a view is, with the cycles spent for the cycle due
+abbrev pub between : Bool → Visible → Visible
+between true v = v
+between false v = visible (replicate 16 0) 0 0 (flagsOf 0) (v .stop)
+
+unfoldable pub leftNumbers : Bool → Visible → ℕ → ℕ → List ℕ
+leftNumbers noneSpent v spent clock = seenNumbers 6 (between noneSpent v) spent clock
 
 -- numbers written from the front of a list on; what is past them stays
 abbrev pub onto : List ℕ → List ℕ → List ℕ

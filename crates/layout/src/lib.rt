@@ -5,9 +5,10 @@ ghost use Prim.Native.Nat.{ℕ, _≤_};
 ghost use Rattle.words.specs.Arithmetic.{bit};
 ghost use Rattle.core.specs.Calls.{done, refused, reset, load, run, step, view};
 ghost use Rattle.refusals.specs.Refusals.{refusalNumber};
+ghost use Rattle.core.specs.Cores.{visible, visibleOf};
+ghost use Rattle.core.specs.Spent.{spentOf, dueOne};
 ghost use Rattle.core.specs.Answers.{loadAnswerOf, runAnswerOf, viewAnswerOf};
-ghost use Rattle.core.specs.declared.ViewAnswer.the-variants.{Viewed};
-ghost use Rattle.layout.specs.Layout.{padded, flagsNumber, isOdd, flagsOf, stopNumber, answerNumbers, ontoIfRoom, numbered, gave};
+ghost use Rattle.layout.specs.Layout.{padded, flagsNumber, isOdd, flagsOf, stopNumber, seenNumbers, answerNumbers, leftNumbers, ontoIfRoom, numbered, gave};
 use core::Core;
 use core::LoadAnswer;
 use core::RunAnswer;
@@ -160,8 +161,9 @@ fn widened(regs: [u16; 16]) -> [u64; 16]
     out
 }
 
-fn snapshot_numbers(s: Snapshot) -> [u64; 23]
-    ensures { λ r. ⌜ r ≡ answerNumbers (viewAnswerOf Viewed s) ⌝ }
+// What is seen of a core, with the case; `due` is the number of a cycle.
+fn seen_numbers(kind: u64, s: Snapshot) -> [u64; 23]
+    ensures { λ r. ⌜ r ≡ seenNumbers kind (visible (s .regs) (s .pc) (s .sp) (s .flags) (s .stop)) (s .due) (s .clock .0) ⌝ }
 {
     let regs = s.regs;
     let flags = s.flags;
@@ -169,7 +171,7 @@ fn snapshot_numbers(s: Snapshot) -> [u64; 23]
     let clock = s.clock;
     let r = widened(regs);
     [
-        3,
+        kind,
         r[0],
         r[1],
         r[2],
@@ -199,9 +201,33 @@ pub fn view_numbers(answer: ViewAnswer, snapshot: Snapshot) -> [u64; 23]
     ensures { λ r. ⌜ r ≡ answerNumbers (viewAnswerOf answer snapshot) ⌝ }
 {
     match answer {
-        ViewAnswer::Viewed => snapshot_numbers(snapshot),
+        ViewAnswer::Viewed => seen_numbers(3, snapshot),
         ViewAnswer::Refused(why) => refused_numbers(why),
     }
+}
+
+// What a list of calls left of a core. A view is refused in an unfinished instruction, and then shows zeros.
+pub fn left_numbers(core: Core) -> [u64; 23]
+    ensures { λ r. ⌜ r ≡ leftNumbers (dueOne core) (visibleOf core) (spentOf core) (core .clock .0) ⌝ }
+{
+    let stop = core.stop;
+    let clock = core.clock;
+    let spent = core.spent();
+    let seen = core.view().snapshot;
+    let regs = seen.regs;
+    let flags = seen.flags;
+    seen_numbers(
+        6,
+        Snapshot {
+            regs: regs,
+            pc: seen.pc,
+            sp: seen.sp,
+            flags: flags,
+            stop: stop,
+            due: spent,
+            clock: clock,
+        },
+    )
 }
 
 // Writes an answer's numbers to the front of a slice; one that is too short stays as it is.

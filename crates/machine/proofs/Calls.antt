@@ -1,7 +1,7 @@
 -- Each call, on a core and on the machine that it stands to: the same answer, the same memory, and the relation again.
 use mathlib.Core.Path.{_≡_, refl, sym, ap, subst, _∙_}
 use mathlib.Core.Bool.{Bool, true, false, not}
-use mathlib.Core.List.{List, [], _∷_, _++_}
+use mathlib.Core.List.{List, [], _∷_}
 use Prim.Native.Nat.{ℕ, _+_, _≤_}
 use native.Mathlib.Omega.{arith}
 use native.Mathlib.Nat.{zero-add, add-assoc}
@@ -17,30 +17,30 @@ use Rattle.refusals.specs.Refusals.{wrongLength}
 use Rattle.core.specs.Numbers.{isGoing, loadNumber, runNumber, stepNumber, viewNumber}
 use Rattle.core.specs.Calls as core
 use Rattle.core.specs.Progress.{Progress, starting, cyclesOn}
-use Rattle.core.specs.Calls.{ran, viewed, endOf}
+use Rattle.core.specs.Calls.{Answer, ran, viewed, endOf}
 use Rattle.core.specs.declared.Core.{Core}
 use Rattle.core.proofs.Spent.{due-of-spent}
 use Rattle.refusals.proofs.First.{none-applies}
 use Rattle.core.proofs.Cycles.{cycles-add, counted, cycles-counted}
 use Rattle.machine.specs.Machine as machine
-use Rattle.machine.specs.Machine.{Machine, Logged, cyclesOf, looped, loopOf, used, spentAfter, noneSpent, stepped}
-use Rattle.machine.specs.Theorem.{Call, reset, load, run, step, view, onCore, onMachine, logAfter}
+use Rattle.machine.specs.Machine.{Machine, cyclesOf, looped, loopOf, used, spentAfter, noneSpent, stepped}
+use Rattle.machine.specs.Theorem.{Call, reset, load, run, step, view, replyTo, onMachine}
 use Rattle.machine.proofs.Runs.{Arrived, loopAt, arrives, spent-going, spent-stopped}
 use Rattle.machine.proofs.Relation.{Related, at-rest, rest, seen, resumed, due-one}
 
-pub record Same (r : core.Reply) (s : machine.Reply) (log : List Logged) : Type 0 where
-  pub answer : r .answer ≡ s .answer
-  pub memory : r .memory ≡ s .machine .memory
-  pub related : Related (r .core) (s .machine) log
+pub record Same (r : core.Reply) (s : Answer × Machine) : Type 0 where
+  pub answer : r .answer ≡ s .0
+  pub memory : r .memory ≡ s .1 .memory
+  pub related : Related (r .core) (s .1)
 
 -- both refuse with the same number, or neither does
-unless-same : (c : Core) (m : Machine) (log : List Logged) (n n′ : ℕ) (r : core.Reply) (s : machine.Reply) → n ≡ n′
-    → Related c m log → (n ≡ 0 → Same r s (s .log ++ log))
-    → Same (core.unless n c (m .memory) r) (machine.unless n′ m s) (machine.unless n′ m s .log ++ log)
-unless-same c m log n n′ r s e related taken = by (eqb n 0) refl
+unless-same : (c : Core) (m : Machine) (n n′ : ℕ) (r : core.Reply) (s : Answer × Machine) → n ≡ n′
+    → Related c m → (n ≡ 0 → Same r s)
+    → Same (core.unless n c (m .memory) r) (machine.unless n′ m s)
+unless-same c m n n′ r s e related taken = by (eqb n 0) refl
   where
     by : (b : Bool) → eqb n 0 ≡ b
-        → Same (core.unless n c (m .memory) r) (machine.unless n′ m s) (machine.unless n′ m s .log ++ log)
+        → Same (core.unless n c (m .memory) r) (machine.unless n′ m s)
     by true h = rw (← e, h) (taken (eqb-true n 0 h))
     by false h = rw (← e, h) (record { answer = refl; memory = refl; related = related })
 
@@ -52,16 +52,8 @@ none-spent m e = by (noneSpent m) refl
     by true h = eqb-true (m .spent) 0 h
     by false h = let z : _≡_ {A = Bool} true false = rw h at e in absurd (let n : _≡_ {A = ℕ} 0 1 = cc in omega arith)
 
--- cycles of two lists of instructions
-cycles-append : (new old : List Logged) → cyclesOf (new ++ old) ≡ cyclesOf new + cyclesOf old
-unfolding cyclesOf
-cycles-append [] old = sym (zero-add (cyclesOf old))
-cycles-append (x ∷ new) old =
-    ap (λ (n : ℕ). wordTakes (x .word) (x .flags) + n) (cycles-append new old)
-    ∙ sym (add-assoc (wordTakes (x .word) (x .flags)) (cyclesOf new) (cyclesOf old))
-
 -- with none spent, core and machine show the same
-pub visible-same : {c : Core} {m : Machine} {log : List Logged} → Related c m log → m .spent ≡ 0 → visibleOf c ≡ m .visible
+pub visible-same : {c : Core} {m : Machine} → Related c m → m .spent ≡ 0 → visibleOf c ≡ m .visible
 visible-same r e = ap visibleOf (at-rest r e) ∙ r .visible
 
 -- what a run leaves of s+b, used and spent: `a` is what the clock, or the sum of the costs, has come to
@@ -76,28 +68,28 @@ used-here Going t s b q l u = omega arith
 used-here Halted t s b q l u = omega arith
 used-here Undefined t s b q l u = omega arith
 
-module _ (c : Core) (m : Machine) (log : List Logged) (r : Related c m log) where
-  reset-same : Same (core.reset c (m .memory)) (machine.reset m) []
+module _ (c : Core) (m : Machine) (r : Related c m) where
+  reset-same : Same (core.reset c (m .memory)) (machine.reset m)
   unfolding core.reset machine.reset cyclesOf
-  reset-same = record { answer = refl; memory = refl; related = rest freshCore _ [] refl refl refl refl refl }
+  reset-same = record { answer = refl; memory = refl; related = rest freshCore _ refl refl refl refl refl }
 
-  load-same : (text : List ℕ) → Same (core.load text c (m .memory)) (machine.load text m) (machine.load text m .log ++ log)
+  load-same : (text : List ℕ) → Same (core.load text c (m .memory)) (machine.load text m)
   unfolding core.load machine.load loadNumber
   load-same text =
-      unless-same c m log _ _ _ _ (ap (loadNumber (length (m .memory))) (due-one (seen r))) r
+      unless-same c m _ _ _ _ (ap (loadNumber (length (m .memory))) (due-one (seen r))) r
       λ e. let past = none-applies 0 (wrongLength (length (m .memory))) _ e .1 in
       let none = none-spent m (rw (due-one (seen r)) at (none-applies 6 (not (dueOne c)) _ past .0)) in
       let total = r .total in
       record {
         answer = refl;
         memory = refl;
-        related = rest c _ log none (due-one (seen r) ∙ eq-eqb (m .spent) 0 none) (visible-same r none) (seen r .clock) (omega arith);
+        related = rest c _ none (due-one (seen r) ∙ eq-eqb (m .spent) 0 none) (visible-same r none) (seen r .clock) (omega arith);
       }
 
-  view-same : Same (core.view c (m .memory)) (machine.view m) (machine.view m .log ++ log)
+  view-same : Same (core.view c (m .memory)) (machine.view m)
   unfolding core.view machine.view viewNumber
   view-same =
-      unless-same c m log _ _ _ _ (ap viewNumber (due-one (seen r))) r
+      unless-same c m _ _ _ _ (ap viewNumber (due-one (seen r))) r
       λ e. let none = none-spent m (rw (due-one (seen r)) at (none-applies 6 (not (dueOne c)) _ e .0)) in
       let visible = visible-same r none in
       let due = due-of-spent c (seen r .due) ∙ ap (λ (n : ℕ). n + 1) (seen r .spent) in
@@ -107,7 +99,6 @@ module _ (c : Core) (m : Machine) (log : List Logged) (r : Related c m log) wher
   -- one instruction by both
   step-taken : m .spent ≡ 0
       → Same (core.steppedReply (takes (m .memory) (visibleOf c)) (stepTransition (m .memory) c) (m .memory)) (stepped m)
-      (stepped m .log ++ log)
   unfolding stepTransition memoryAfter cyclesOf takes
   step-taken none =
       let visible = visible-same r none in
@@ -117,16 +108,16 @@ module _ (c : Core) (m : Machine) (log : List Logged) (r : Related c m log) wher
       record {
         answer = λ j. ran (cost j) 1 (endOf (after (m .memory) (visible j) .stop) true);
         memory = ap (memoryAfter (m .memory)) visible;
-        related = rest _ _ _ refl refl (ap (after (m .memory)) visible) (λ j. clock j + cost j) (omega arith);
+        related = rest _ _ refl refl (ap (after (m .memory)) visible) (λ j. clock j + cost j) (omega arith);
       }
 
-  step-same : Same (core.step c (m .memory)) (machine.step m) (machine.step m .log ++ log)
+  step-same : Same (core.step c (m .memory)) (machine.step m)
   unfolding core.step machine.step stepNumber runNumber
   step-same =
       let due = due-one (seen r) in
       let stop = seen r .stop in
       let clock = seen r .clock in
-      unless-same c m log _ _ _ _ (λ j. stepNumber (length (m .memory)) (stop j) (due j) (clock j)) r
+      unless-same c m _ _ _ _ (λ j. stepNumber (length (m .memory)) (stop j) (due j) (clock j)) r
       λ e. let past = none-applies 0 (wrongLength (length (m .memory))) _ e .1 in
       let past′ = none-applies 7 (not (isGoing (c .stop))) _ past .1 in
       step-taken (none-spent m (rw due at (none-applies 6 (not (dueOne c)) _ past′ .0)))
@@ -134,22 +125,21 @@ module _ (c : Core) (m : Machine) (log : List Logged) (r : Related c m log) wher
   -- the cycles of a run and the loop of the machine
   arrived : (b : ℕ)
       → Arrived (starting (r .start) (m .memory)) (counted (m .spent) 0 (cyclesOn b (starting c (m .memory))))
-      (loopAt (starting (r .start) (m .memory)) (m .spent + b) []) (loopOf b m)
+      (loopAt (starting (r .start) (m .memory)) (m .spent + b) 0 (m .log)) (loopOf b m)
   arrived b =
       let p = starting (r .start) (m .memory) in
-      let x = loopAt p (m .spent + b) [] in
+      let x = loopAt p (m .spent + b) 0 (m .log) in
       let visible = r .visible in
       let q : cyclesOn (m .spent + b) p ≡ counted (m .spent) 0 (cyclesOn b (starting c (m .memory))) =
       cycles-add (m .spent) b p ∙ ap (cyclesOn b) (resumed r) ∙ cycles-counted b (m .spent) 0 (starting c (m .memory)) in
       let y : looped (m .spent + b) x ≡ loopOf b m =
-      λ j. looped (m .spent + b) (record { visible = visible j; memory = m .memory; t = m .spent + b; log = [] }) in
+      λ j. looped (m .spent + b) (record { visible = visible j; memory = m .memory; t = m .spent + b; finished = 0; log = m .log }) in
       subst (Arrived p (counted (m .spent) 0 (cyclesOn b (starting c (m .memory)))) x) y
       (subst (λ (q : Progress). Arrived p q x (looped (m .spent + b) x)) q
-      (arrives (m .spent + b) (m .spent + b) [] p (r .due) (omega arith)))
+      (arrives (m .spent + b) (m .spent + b) 0 (m .log) p (r .due) (omega arith)))
 
   run-related : (b : ℕ)
-      → Related (cyclesOn b (starting c (m .memory)) .core) (machine.ranReply b (m .clock) (loopOf b m) .machine)
-      (loopOf b m .log ++ log)
+      → Related (cyclesOn b (starting c (m .memory)) .core) (machine.ranReply b (m .clock) (loopOf b m) .1)
   unfolding cyclesOf
   run-related b =
       let a = arrived b in
@@ -158,8 +148,7 @@ module _ (c : Core) (m : Machine) (log : List Logged) (r : Related c m log) wher
       let q = cyclesOn b (starting c (m .memory)) in
       let counted-used = a .used ∙ zero-add (used stop (m .spent + b) (y .t)) in
       let clock : a .start .clock .0 + y .t ≡ m .clock + b = omega (arith, a .clock, r .clock) in
-      let total : cyclesOf (y .log ++ log) + y .t ≡ m .clock + b =
-      omega (arith, a .total, r .total, cycles-append (y .log) log) in
+      let total : cyclesOf (y .log) + y .t ≡ m .clock + b = omega (arith, a .total, r .total) in
       record {
         start = a .start;
         due = a .due;
@@ -173,7 +162,6 @@ module _ (c : Core) (m : Machine) (log : List Logged) (r : Related c m log) wher
 
   run-taken : (b : ℕ)
       → Same (core.ranReply (cyclesOn b (starting c (m .memory)))) (machine.ranReply b (m .clock) (loopOf b m))
-      (loopOf b m .log ++ log)
   run-taken b =
       let a = arrived b in
       let y = loopOf b m in
@@ -182,26 +170,25 @@ module _ (c : Core) (m : Machine) (log : List Logged) (r : Related c m log) wher
       let stop = s .stop in
       let due = due-one s in
       let cycles = used-here (y .visible .stop) (y .t) (m .spent) b (q .used) (a .less) (a .used ∙ zero-add _) in
-      let finished : q .finished ≡ length (y .log) = omega (arith, a .finished) in
+      let finished : q .finished ≡ y .finished = omega (arith, a .finished) in
       record {
         answer = λ j. ran (cycles j) (finished j) (endOf (stop j) (due j));
         memory = a .memory;
         related = run-related b;
       }
 
-  run-same : (b : ℕ) → Same (core.run b c (m .memory)) (machine.run b m) (machine.run b m .log ++ log)
+  run-same : (b : ℕ) → Same (core.run b c (m .memory)) (machine.run b m)
   unfolding core.run machine.run
   run-same b =
       let stop = seen r .stop in
       let due = seen r .due in
       let clock = seen r .clock in
-      unless-same c m log _ _ _ _ (λ j. runNumber (length (m .memory)) (stop j) (due j) (clock j) b) r (λ _. run-taken b)
+      unless-same c m _ _ _ _ (λ j. runNumber (length (m .memory)) (stop j) (due j) (clock j) b) r (λ _. run-taken b)
 
 -- every call
-pub call-same : (call : Call) (c : Core) (m : Machine) (log : List Logged) → Related c m log
-    → Same (onCore call c (m .memory)) (onMachine call m) (logAfter call (onMachine call m .log) log)
-call-same reset c m log r = reset-same c m log r
-call-same (load text) c m log r = load-same c m log r text
-call-same (run b) c m log r = run-same c m log r b
-call-same step c m log r = step-same c m log r
-call-same view c m log r = view-same c m log r
+pub call-same : (call : Call) (c : Core) (m : Machine) → Related c m → Same (replyTo call c (m .memory)) (onMachine call m)
+call-same reset c m r = reset-same c m r
+call-same (load text) c m r = load-same c m r text
+call-same (run b) c m r = run-same c m r b
+call-same step c m r = step-same c m r
+call-same view c m r = view-same c m r

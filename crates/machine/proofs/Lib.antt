@@ -1,5 +1,6 @@
--- Proof of the theorem over every list of calls.
+-- Proofs of the theorems over every list of calls.
 pub mod Runs
 pub mod Relation
 pub mod Calls
 pub mod Theorem
+pub mod Made

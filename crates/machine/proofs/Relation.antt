@@ -1,7 +1,6 @@
 -- How a core stands to the machine between calls: it is as many cycles into the machine's next instruction as the machine has spent.
 use mathlib.Core.Path.{_≡_, refl, sym, ap, _∙_}
 use mathlib.Core.Bool.{Bool, true, false, cond}
-use mathlib.Core.List.{List}
 use Prim.Native.Nat.{ℕ, _+_, _<_}
 use native.Mathlib.Omega.{arith}
 use lib.Dec.{eqb}
@@ -15,9 +14,9 @@ use Rattle.core.specs.declared.Core.{Core}
 use Rattle.core.proofs.Spent.{none-spent, range-when-one}
 use Rattle.core.proofs.Cycles.{only-going, no-cycle, counted, cost-range}
 use Rattle.core.proofs.OneInstruction.{one-instruction}
-use Rattle.machine.specs.Machine.{Machine, Logged, cyclesOf, noneSpent}
+use Rattle.machine.specs.Machine.{Machine, cyclesOf, noneSpent}
 
-pub record Related (c : Core) (m : Machine) (log : List Logged) : Type 0 where
+pub record Related (c : Core) (m : Machine) : Type 0 where
   -- the core at the start of that instruction
   pub start : Core
   pub due : dueOne start ≡ true
@@ -26,7 +25,7 @@ pub record Related (c : Core) (m : Machine) (log : List Logged) : Type 0 where
   pub within : isGoing (m .visible .stop) ≡ true → m .spent < takes (m .memory) (m .visible)
   pub still : isGoing (m .visible .stop) ≡ false → m .spent ≡ 0
   pub clock : start .clock .0 + m .spent ≡ m .clock
-  pub total : cyclesOf log + m .spent ≡ m .clock
+  pub total : cyclesOf (m .log) + m .spent ≡ m .clock
 
 -- what is to be seen of it
 pub record Seen (c : Core) (m : Machine) : Type 0 where
@@ -37,14 +36,14 @@ pub record Seen (c : Core) (m : Machine) : Type 0 where
   pub few : m .spent < 4
 
 -- with none spent, the core is at the start
-pub at-rest : {c : Core} {m : Machine} {log : List Logged} (r : Related c m log) → m .spent ≡ 0 → c ≡ r .start
+pub at-rest : {c : Core} {m : Machine} (r : Related c m) → m .spent ≡ 0 → c ≡ r .start
 at-rest {c} {m} r e =
     r .core ∙ ap (λ (n : ℕ). cyclesOn n (starting (r .start) (m .memory)) .core) e
     ∙ ap (λ (p : Progress). p .core) (no-cycle (starting (r .start) (m .memory)))
 
-pub rest : (c : Core) (m : Machine) (log : List Logged) → m .spent ≡ 0 → dueOne c ≡ true → visibleOf c ≡ m .visible
-    → c .clock .0 ≡ m .clock → cyclesOf log ≡ m .clock → Related c m log
-rest c m log s d v t e =
+pub rest : (c : Core) (m : Machine) → m .spent ≡ 0 → dueOne c ≡ true → visibleOf c ≡ m .visible
+    → c .clock .0 ≡ m .clock → cyclesOf (m .log) ≡ m .clock → Related c m
+rest c m s d v t e =
     record {
       start = c;
       due = d;
@@ -59,7 +58,7 @@ rest c m log s d v t e =
       total = omega arith;
     }
 
-module _ {c : Core} {m : Machine} {log : List Logged} (r : Related c m log) where
+module _ {c : Core} {m : Machine} (r : Related c m) where
   -- in the middle of the instruction, if the machine goes on
   midway : isGoing (m .visible .stop) ≡ true
       → Midway (m .spent) (starting (r .start) (m .memory)) (cyclesOn (m .spent) (starting (r .start) (m .memory)))

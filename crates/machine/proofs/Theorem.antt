@@ -1,40 +1,92 @@
--- The theorem `EveryList` of specs/Theorem.antt: by induction on the list, one call at a time.
-use mathlib.Core.Path.{_≡_, refl, sym, subst, _∙_}
-use mathlib.Core.List.{List, [], _∷_}
-use Prim.Native.Nat.{ℕ}
+-- The theorems `EveryList` and `EveryMoment` of specs/Theorem.antt: by what holds of each call.
+use mathlib.Core.Path.{_≡_, refl, sym, ap, subst, _∙_}
+use mathlib.Core.Bool.{Bool, true, false}
+use mathlib.Core.List.{List}
+use Prim.Native.Nat.{ℕ, _+_}
 use native.Mathlib.Omega.{arith}
+use borrow.Author.Tests.{eqb-true}
+use lib.Dec.{eqb}
+use lib.ListN.{length}
+use Rattle.listing.specs.Answers as listing
+use Rattle.listing.specs.Listing.{listingAnswer}
 use Rattle.core.specs.Cores.{freshCore}
-use Rattle.core.specs.Calls.{Answer}
+use Rattle.core.specs.Numbers.{loadNumber, runNumber, stepNumber, viewNumber}
+use Rattle.core.specs.Calls.{Answer, ran, viewed, refused, Reply}
+use Rattle.core.specs.Calls as core
 use Rattle.core.specs.declared.Core.{Core}
-use Rattle.machine.specs.Machine.{Machine, Logged, cyclesOf, freshMachine}
-use Rattle.machine.specs.Theorem.{Call, CorePlay, MachinePlay, onCore, onMachine, logAfter, playCore, playMachine, answering, responding, Agree, EveryList}
+use Rattle.core.specs.declared.End.{End}
+use Rattle.core.proofs.Refusals.{ready}
+use Rattle.core.proofs.Again.{run-passed}
+use Rattle.plays.specs.Plays.{play, counted}
+use Rattle.plays.proofs.Plays.{plays-agree, plays-counted}
+use Rattle.machine.specs.Machine as machine
+use Rattle.machine.specs.Machine.{Machine, cyclesOf, freshMachine, noneSpent, loaded, loopStart, loopOf, ranReply, stepped}
+use Rattle.machine.specs.Theorem.{Call, reset, load, run, step, view, State, freshState, replyTo, onCore, onMachine, finishedWith, EveryList, EveryMoment}
+use Rattle.machine.proofs.Runs.{log-grows}
 use Rattle.machine.proofs.Relation.{Related, rest, seen}
 use Rattle.machine.proofs.Calls.{call-same, visible-same}
 
--- an answer in front
-one-more : {a b : Answer} {p : CorePlay} {q : MachinePlay} → a ≡ b → Agree p q → Agree (answering a p) (responding b q)
-one-more e g =
-    let answers = g .answers in
-    record {
-      answers = λ j. e j ∷ answers j;
-      memory = g .memory;
-      clock = g .clock;
-      stop = g .stop;
-      due = g .due;
-      spent = g .spent;
-      at-most-three = g .at-most-three;
-      visible = g .visible;
-      total = g .total;
-    }
+-- how a core and its memory stand to the machine
+pub record Joined (s : State) (m : Machine) : Type 0 where
+  pub memory : s .memory ≡ m .memory
+  pub related : Related (s .core) m
 
-agrees : (calls : List Call) (c : Core) (m : Machine) (log : List Logged) → Related c m log
-    → Agree (playCore calls c (m .memory)) (playMachine calls m log)
-unfolding playCore playMachine
-agrees [] c m log r =
+each : (call : Call) (s : State) (m : Machine) → Joined s m
+    → (onCore call s .0 ≡ onMachine call m .0) × Joined (onCore call s .1) (onMachine call m .1)
+each call s m j =
+    let same = call-same call (s .core) m (j .related) in
+    subst
+    (λ (memory : List ℕ). let r : Reply = replyTo call (s .core) memory in
+    (r .answer ≡ onMachine call m .0) × Joined (record { core = r .core; memory = r .memory }) (onMachine call m .1))
+    (sym (j .memory)) (same .answer, record { memory = same .memory; related = same .related })
+
+-- what a call answers as finished is what it adds to the log
+record Counts (m : Machine) (r : Answer × Machine) : Type 0 where
+  same : finishedWith (r .0) (length (m .log)) ≡ length (r .1 .log)
+
+unless-counts : (number : ℕ) (m : Machine) (r : Answer × Machine) → Counts m r → Counts m (machine.unless number m r)
+unless-counts number m r e = by (eqb number 0) refl
+  where
+    by : (b : Bool) → eqb number 0 ≡ b → Counts m (machine.unless number m r)
+    by true h = rw h e
+    by false h = rw h (record { same = refl })
+
+load-counts : (a : listing.Answer) (n : ℕ) → finishedWith (core.loadAnswer a) n ≡ n
+load-counts (listing.stored count) n = refl
+load-counts (listing.refused number offset) n = refl
+
+counts : (call : Call) (m : Machine) → Counts m (onMachine call m)
+unfolding machine.reset machine.load machine.run machine.step machine.view
+counts reset m = record { same = refl }
+counts (load text) m =
+    unless-counts (loadNumber (length (m .memory)) (noneSpent m)) m (loaded text m)
+    (record { same = load-counts (listingAnswer text (length (m .memory))) (length (m .log)) })
+counts (run b) m =
+    unless-counts (runNumber (length (m .memory)) (m .visible .stop) true (m .clock) b) m (ranReply b (m .clock) (loopOf b m))
+    (record { same = omega (arith, log-grows (m .spent + b) (loopStart b m)) })
+counts step m =
+    unless-counts (stepNumber (length (m .memory)) (m .visible .stop) (noneSpent m) (m .clock)) m (stepped m)
+    (record { same = omega arith })
+counts view m =
+    unless-counts (viewNumber (noneSpent m)) m (viewed (m .visible) (m .spent + 1) (m .clock), m) (record { same = refl })
+
+-- answers alike and what is left, of every list
+played : (memory : List ℕ) (calls : List Call)
+    → (play onCore calls (freshState memory) .0 ≡ play onMachine calls (freshMachine memory) .0)
+    × Joined (play onCore calls (freshState memory) .1) (play onMachine calls (freshMachine memory) .1)
+unfolding cyclesOf
+played memory calls =
+    plays-agree Call State Machine Answer onCore onMachine Joined each calls (freshState memory) (freshMachine memory)
+    (record { memory = refl; related = rest freshCore (freshMachine memory) refl refl refl refl refl })
+
+pub every-list : EveryList
+every-list memory calls =
+    let both = played memory calls in
+    let r = both .1 .related in
     let s = seen r in
     record {
-      answers = refl;
-      memory = refl;
+      answers = both .0;
+      memory = both .1 .memory;
       clock = s .clock;
       stop = s .stop;
       due = s .due;
@@ -42,17 +94,28 @@ agrees [] c m log r =
       at-most-three = let few = s .few in omega arith;
       visible = visible-same r;
       total = s .clock ∙ sym (r .total);
+      finished =
+          ap (λ (answers : List Answer). counted finishedWith answers 0) (both .0)
+          ∙ plays-counted Call Machine Answer onMachine finishedWith (λ m. length (m .log)) (λ call m. counts call m .same) calls
+          (freshMachine memory);
     }
-agrees (call ∷ rest) c m log r =
-    let same = call-same call c m log r in
-    let next = onMachine call m in
-    let then = logAfter call (next .log) log in
-    subst
-    (λ (memory : List ℕ). Agree (answering (onCore call c (m .memory) .answer) (playCore rest (onCore call c (m .memory) .core) memory))
-    (responding (next .answer) (playMachine rest (next .machine) then)))
-    (sym (same .memory))
-    (one-more (same .answer) (agrees rest (onCore call c (m .memory) .core) (next .machine) then (same .related)))
 
-pub every-list : EveryList
-unfolding cyclesOf
-every-list memory calls = agrees calls freshCore (freshMachine memory) [] (rest freshCore (freshMachine memory) [] refl refl refl refl refl)
+-- what answers as a run does is not refused
+not-refused : (number : ℕ) (c : Core) (memory : List ℕ) (r : Reply) (used finished : ℕ) (end : End)
+    → core.unless number c memory r .answer ≡ ran used finished end → number ≡ 0
+not-refused number c memory r used finished end e = by (eqb number 0) refl
+  where
+    by : (b : Bool) → eqb number 0 ≡ b → number ≡ 0
+    by true h = eqb-true number 0 h
+    by false h = let z : refused number ≡ ran used finished end = rw h at e in absurd (let n : _≡_ {A = ℕ} 0 1 = cc in omega arith)
+
+pub every-moment : EveryMoment
+unfolding core.run
+every-moment memory calls b i used finished end taken few =
+    let s = play onCore calls (freshState memory) .1 in
+    let m = play onMachine calls (freshMachine memory) .1 in
+    let r = ready _ _ _ _ _ (not-refused _ (s .core) (s .memory) _ used finished end taken) in
+    let room = r .room in
+    let own = run-passed i (s .core) (s .memory) (r .size) (r .going) (r .due) (omega arith) in
+    let then = each (run i) s m (played memory calls .1) .1 in
+    (ap (λ (x : Reply). x .memory) (sym own) ∙ then .memory, ap (λ (x : Reply). x .core .clock .0) (sym own) ∙ seen (then .related) .clock)

@@ -1,3 +1,3 @@
--- The instruction machine, and the theorem over every list of calls.
+-- The instruction machine, and the theorems over every list of calls.
 pub mod Machine
 pub mod Theorem

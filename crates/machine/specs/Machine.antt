@@ -13,18 +13,7 @@ use Rattle.core.specs.Instruction.{wordDue, after, memoryAfter, wordTakes, take
 use Rattle.core.specs.Numbers.{isGoing, loadNumber, runNumber, stepNumber, viewNumber}
 use Rattle.core.specs.Calls.{Answer, done, ran, viewed, refused, endOf, loadAnswer}
 
--- 'R0 to R15, PC, SP, flags, .. stop state' (`visible`), 'memory, .. clock T, and s, cycles spent (0 to 3)'
-pub record Machine : Type 0 where
-  pub visible : Visible
-  pub memory : List ℕ
-  pub clock : ℕ
-  pub spent : ℕ
-
--- 'It starts fresh on the same memory'
-abbrev pub freshMachine : List ℕ → Machine
-freshMachine memory = record { visible = freshVisible; memory = memory; clock = 0; spent = 0 }
-
--- a finished instruction in the log: its word, and the flags under which it was executed
+-- a finished instruction: its word, and the flags under which it was executed
 pub record Logged : Type 0 where
   pub word : ℕ
   pub flags : Flags
@@ -34,57 +23,70 @@ unfoldable pub cyclesOf : List Logged → ℕ
 cyclesOf [] = 0
 cyclesOf (x ∷ rest) = wordTakes (x .word) (x .flags) + cyclesOf rest
 
--- what a call gives back; the log has the instructions that it executed, the last one first
-pub record Reply : Type 0 where
-  pub answer : Answer
-  pub machine : Machine
+-- 'R0 to R15, PC, SP, flags, .. stop state' (`visible`), 'memory, .. clock T, and s, cycles spent (0 to 3)'; and a log of the instructions
+-- finished since the last reset, or the start, the last one first, by which the clock is told as a sum
+pub record Machine : Type 0 where
+  pub visible : Visible
+  pub memory : List ℕ
+  pub clock : ℕ
+  pub spent : ℕ
   pub log : List Logged
 
-abbrev pub unless : ℕ → Machine → Reply → Reply
-unless number m reply = cond (eqb number 0) reply (record { answer = refused number; machine = m; log = [] })
+-- 'It starts fresh on the same memory'
+abbrev pub freshMachine : List ℕ → Machine
+freshMachine memory = record { visible = freshVisible; memory = memory; clock = 0; spent = 0; log = [] }
+
+-- a call answers, and leaves the machine; with a number other than 0 it is refused and changes nothing
+abbrev pub unless : ℕ → Machine → Answer × Machine → Answer × Machine
+unless number m reply = cond (eqb number 0) reply (refused number, m)
 
 -- 'for 7 and the end letter, cycle 1 is due when s is 0, otherwise one of 2 to 4'
 abbrev pub noneSpent : Machine → Bool
 noneSpent m = eqb (m .spent) 0
 
 -- 'Reset: all zero but memory, going.'
-unfoldable pub reset : Machine → Reply
-reset m = record { answer = done; machine = freshMachine (m .memory); log = [] }
+unfoldable pub reset : Machine → Answer × Machine
+reset m = (done, freshMachine (m .memory))
 
 -- 'Load and view: as above.'
-unfoldable pub load : List ℕ → Machine → Reply
-load text m =
-    unless (loadNumber (length (m .memory)) (noneSpent m)) m
-    (record {
-      answer = loadAnswer (listingAnswer text (length (m .memory)));
-      machine = record { visible = m .visible; memory = listingMemory text (m .memory); clock = m .clock; spent = m .spent };
-      log = [];
-    })
+abbrev pub withMemory : List ℕ → Machine → Machine
+withMemory memory m =
+    record { visible = m .visible; memory = memory; clock = m .clock; spent = m .spent; log = m .log }
 
-unfoldable pub view : Machine → Reply
-view m =
-    unless (viewNumber (noneSpent m)) m
-    (record { answer = viewed (m .visible) (m .spent + 1) (m .clock); machine = m; log = [] })
+abbrev pub loaded : List ℕ → Machine → Answer × Machine
+loaded text m = (loadAnswer (listingAnswer text (length (m .memory))), withMemory (listingMemory text (m .memory)) m)
+
+unfoldable pub load : List ℕ → Machine → Answer × Machine
+load text m = unless (loadNumber (length (m .memory)) (noneSpent m)) m (loaded text m)
+
+unfoldable pub view : Machine → Answer × Machine
+view m = unless (viewNumber (noneSpent m)) m (viewed (m .visible) (m .spent + 1) (m .clock), m)
 
 -- the loop of a run: t is what is left of s+b
 pub record Loop : Type 0 where
   pub visible : Visible
   pub memory : List ℕ
   pub t : ℕ
+  pub finished : ℕ
   pub log : List Logged
 
 -- 'while going and the cost c of the instruction at PC is at most t'
 abbrev pub goesOn : Loop → Bool
 goesOn x = cond (isGoing (x .visible .stop)) (leb (takes (x .memory) (x .visible)) (x .t)) false
 
--- 'execute it and take c from t'
+-- the instruction at PC, for the log
+abbrev pub logged : List ℕ → Visible → Logged
+logged memory v = record { word = wordDue memory v; flags = v .flags }
+
+-- 'execute it and take c from t'; 'Each one executed is one finished, HALT and undefined too.'
 abbrev pub afterOne : Loop → Loop
 afterOne x =
     record {
       visible = after (x .memory) (x .visible);
       memory = memoryAfter (x .memory) (x .visible);
       t = x .t - takes (x .memory) (x .visible);
-      log = record { word = wordDue (x .memory) (x .visible); flags = x .visible .flags } ∷ x .log;
+      finished = x .finished + 1;
+      log = logged (x .memory) (x .visible) ∷ x .log;
     }
 
 -- an instruction takes a cycle at least, so that t times are enough
@@ -92,9 +94,13 @@ unfoldable pub looped : ℕ → Loop → Loop
 looped zero x = x
 looped (suc fuel) x = cond (goesOn x) (looped fuel (afterOne x)) x
 
+-- 'let t = s+b'
+abbrev pub loopStart : ℕ → Machine → Loop
+loopStart b m =
+    record { visible = m .visible; memory = m .memory; t = m .spent + b; finished = 0; log = m .log }
+
 abbrev pub loopOf : ℕ → Machine → Loop
-loopOf b m =
-    looped (m .spent + b) (record { visible = m .visible; memory = m .memory; t = m .spent + b; log = [] })
+loopOf b m = looped (m .spent + b) (loopStart b m)
 
 -- 'If stopped, used is b-t and s is 0; else used is b and s is t.'
 abbrev pub used : Stop → ℕ → ℕ → ℕ
@@ -107,42 +113,37 @@ spentAfter Going t = t
 spentAfter Halted t = 0
 spentAfter Undefined t = 0
 
--- 'T grows by used.' 'Each one executed is one finished, HALT and undefined too.'
-abbrev pub ranReply : ℕ → ℕ → Loop → Reply
-ranReply b clock x =
-    record {
-      answer =
-          ran (used (x .visible .stop) b (x .t)) (length (x .log))
-          (endOf (x .visible .stop) (eqb (spentAfter (x .visible .stop) (x .t)) 0));
-      machine =
-          record {
-            visible = x .visible;
-            memory = x .memory;
-            clock = clock + used (x .visible .stop) b (x .t);
-            spent = spentAfter (x .visible .stop) (x .t);
-          };
-      log = x .log;
-    }
+-- 'T grows by used.'
+abbrev pub ranReply : ℕ → ℕ → Loop → Answer × Machine
+ranReply b clock x = (
+  ran (used (x .visible .stop) b (x .t)) (x .finished)
+      (endOf (x .visible .stop) (eqb (spentAfter (x .visible .stop) (x .t)) 0)),
+  record {
+    visible = x .visible;
+    memory = x .memory;
+    clock = clock + used (x .visible .stop) b (x .t);
+    spent = spentAfter (x .visible .stop) (x .t);
+    log = x .log;
+  },
+)
 
--- 'Run: let t = s+b'
-unfoldable pub run : ℕ → Machine → Reply
+-- 'Run: ..'
+unfoldable pub run : ℕ → Machine → Answer × Machine
 run b m =
     unless (runNumber (length (m .memory)) (m .visible .stop) true (m .clock) b) m (ranReply b (m .clock) (loopOf b m))
 
 -- 'Step: one instruction, T grows by its cost.'
-abbrev pub stepped : Machine → Reply
-stepped m =
-    record {
-      answer = ran (takes (m .memory) (m .visible)) 1 (endOf (after (m .memory) (m .visible) .stop) true);
-      machine =
-          record {
-            visible = after (m .memory) (m .visible);
-            memory = memoryAfter (m .memory) (m .visible);
-            clock = m .clock + takes (m .memory) (m .visible);
-            spent = 0;
-          };
-      log = record { word = wordDue (m .memory) (m .visible); flags = m .visible .flags } ∷ [];
-    }
+abbrev pub stepped : Machine → Answer × Machine
+stepped m = (
+  ran (takes (m .memory) (m .visible)) 1 (endOf (after (m .memory) (m .visible) .stop) true),
+  record {
+    visible = after (m .memory) (m .visible);
+    memory = memoryAfter (m .memory) (m .visible);
+    clock = m .clock + takes (m .memory) (m .visible);
+    spent = 0;
+    log = logged (m .memory) (m .visible) ∷ m .log;
+  },
+)
 
-unfoldable pub step : Machine → Reply
+unfoldable pub step : Machine → Answer × Machine
 step m = unless (stepNumber (length (m .memory)) (m .visible .stop) (noneSpent m) (m .clock)) m (stepped m)

@@ -79,12 +79,12 @@ fn put_answer(page: &mut [u8; 8192], from: usize, numbers: &[u64]) -> usize
     output::put_number(page, at, b" at ", numbers[2])
 }
 
-// Writes a line for each answer.
+// Writes a line for each answer. The last 23 numbers are what the list left, which has no line.
 fn write_answers(answers: &[u64]) {
     let mut page = [0u8; 8192];
     let mut at = 0;
     let mut from = 0;
-    while 23 <= answers.len() - from {
+    while 46 <= answers.len() - from {
         at = put_answer(&mut page, at, &answers[from..]);
         at = output::put(&mut page, at, b"\n");
         from += 23;
@@ -121,11 +121,11 @@ fn play_script(input: &[u8], calls: &mut [u64], answers: &mut [u64]) {
     let read = script::read(input, calls);
     match read {
         ScriptAnswer::Read(count) => {
-            if answers.len() / 23 < count {
+            if answers.len() / 23 <= count {
                 return write_many();
             }
             let numbers = count * 3;
-            let places = count * 23;
+            let places = count * 23 + 23;
             play(&calls[..numbers], input, &mut answers[..places]);
         }
         ScriptAnswer::Unreadable(line) => write_line(b"line ", line, b" cannot be read\n"),
@@ -133,7 +133,7 @@ fn play_script(input: &[u8], calls: &mut [u64], answers: &mut [u64]) {
     }
 }
 
-// 65,536 bytes have at most 13,107 calls (`FewCalls` in script), so there is room for their numbers and answers.
+// 65,536 bytes have at most 13,107 calls (`FewCalls` in script), so there is room for their numbers, their answers and what they left.
 fn main() {
     let mut input = [0u8; 65537];
     let length = io::read_full(0, &mut input);

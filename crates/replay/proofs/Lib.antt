@@ -1,4 +1,5 @@
--- Laws for the code of a replay.
+-- Laws for the code of a replay, and its theorem.
 pub mod Readings
 pub mod Plays
 pub mod Replayed
+pub mod Told

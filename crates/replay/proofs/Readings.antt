@@ -72,30 +72,30 @@ none-left text i ns at h = ap (readFrom text i) (drop-of-length-le ns h)
 
 -- the verdict where n calls were read before
 abbrev pub verdictFrom : ℕ → Reading → ℕ → ReplayAnswer
-verdictFrom n (listed calls) room = cond (leb (23 * (n + length calls)) room) (Played (n + length calls)) NoRoom
+verdictFrom n (listed calls) room = cond (leb (23 * (n + length calls + 1)) room) (Played (n + length calls)) NoRoom
 verdictFrom n (noCall i) room = NoCall i
 verdictFrom n (noStretch i) room = NoStretch i
 
 pub verdict-starts : (r : Reading) (room : ℕ) → verdictOf r room ≡ verdictFrom 0 r room
 verdict-starts (listed calls) room =
-    ap (λ (n : ℕ). cond (leb (23 * n) room) (Played n) NoRoom) (omega arith)
+    ap (λ (n : ℕ). cond (leb (23 * (n + 1)) room) (Played n) NoRoom) (omega arith)
 verdict-starts (noCall i) room = refl
 verdict-starts (noStretch i) room = refl
 
 verdict-goes-on : (n : ℕ) (call : Call) (r : Reading) (room : ℕ) → verdictFrom n (following call r) room ≡ verdictFrom (n + 1) r room
 verdict-goes-on n call (listed calls) room =
-    ap (λ (m : ℕ). cond (leb (23 * m) room) (Played m) NoRoom) (omega arith)
+    ap (λ (m : ℕ). cond (leb (23 * (m + 1)) room) (Played m) NoRoom) (omega arith)
 verdict-goes-on n call (noCall i) room = refl
 verdict-goes-on n call (noStretch i) room = refl
 
 -- n calls and no more
-verdict-room : (n room : ℕ) → 23 * n ≤ room → verdictFrom n (listed []) room ≡ Played n
+verdict-room : (n room : ℕ) → 23 * (n + 1) ≤ room → verdictFrom n (listed []) room ≡ Played n
 verdict-room n room h =
-    ap (λ (m : ℕ). cond (leb (23 * m) room) (Played m) NoRoom) (omega arith) ∙ ap (λ (b : Bool). cond b (Played n) NoRoom) (le-leb _ _ h)
+    ap (λ (m : ℕ). cond (leb (23 * (m + 1)) room) (Played m) NoRoom) (omega arith) ∙ ap (λ (b : Bool). cond b (Played n) NoRoom) (le-leb _ _ h)
 
-verdict-no-room : (n room : ℕ) → room < 23 * n → verdictFrom n (listed []) room ≡ NoRoom
+verdict-no-room : (n room : ℕ) → room < 23 * (n + 1) → verdictFrom n (listed []) room ≡ NoRoom
 verdict-no-room n room h =
-    ap (λ (m : ℕ). cond (leb (23 * m) room) (Played m) NoRoom) (omega arith) ∙ ap (λ (b : Bool). cond b (Played n) NoRoom) (lt-leb _ _ h)
+    ap (λ (m : ℕ). cond (leb (23 * (m + 1)) room) (Played m) NoRoom) (omega arith) ∙ ap (λ (b : Bool). cond b (Played n) NoRoom) (lt-leb _ _ h)
 
 -- a check under way: the verdict on what is left, with the i calls passed, is that on the whole list
 pub record Passed (text calls : List ℕ) (room at i : ℕ) : Type 0 where
@@ -121,8 +121,8 @@ module _ {text calls : List ℕ} {room at i : ℕ} (p : Passed text calls room a
   ended : length calls ≤ at → verdictOf (readCalls text calls) room ≡ verdictFrom i (listed []) room
   ended h = p .same ∙ ap (λ (x : Reading). verdictFrom i x room) (none-left text i calls at h)
 
-  pub ends-with-room : length calls ≤ at → 23 * i ≤ room → verdictOf (readCalls text calls) room ≡ Played i
+  pub ends-with-room : length calls ≤ at → 23 * (i + 1) ≤ room → verdictOf (readCalls text calls) room ≡ Played i
   ends-with-room h fits = ended h ∙ verdict-room i room fits
 
-  pub ends-without : length calls ≤ at → room < 23 * i → verdictOf (readCalls text calls) room ≡ NoRoom
+  pub ends-without : length calls ≤ at → room < 23 * (i + 1) → verdictOf (readCalls text calls) room ≡ NoRoom
   ends-without h short = ended h ∙ verdict-no-room i room short

@@ -2,17 +2,20 @@
 use mathlib.Core.Path.{_≡_, refl, sym, ap, subst, _∙_}
 use mathlib.Core.Bool.{Bool, true, false, cond}
 use mathlib.Core.List.{List}
-use Prim.Native.Nat.{ℕ, _*_, _≤_}
+use Prim.Native.Nat.{ℕ, _≤_}
 use native.Mathlib.Omega.{arith}
-use borrow.Author.Tests.{leb-true, le-leb}
-use lib.Dec.{leb}
-use lib.ListN.{length}
-use Rattle.core.specs.Cores.{freshCore}
-use Rattle.layout.specs.Layout.{onto}
+use borrow.Author.Tests.{eqb-true, leb-true, le-leb}
+use lib.Dec.{eqb, leb}
+use lib.ListN.{length, replicate}
+use Rattle.core.specs.Cores.{Visible, visible, visibleOf}
+use Rattle.core.specs.Calls.{Answer}
+use Rattle.layout.specs.Layout.{flagsOf, seenNumbers, leftNumbers, onto}
 use Rattle.layout.proofs.Onto.{fitting}
-use Rattle.machine.specs.Theorem.{playCore}
-use Rattle.replay.specs.Replay.{Reading, listed, noCall, noStretch, numbersOf, machineReplay, replayed, replayGave}
-use Rattle.replay.specs.ReplayParts.{verdictOf, Playable, afterPlay, corePlayed}
+use Rattle.plays.specs.Plays.{play}
+use Rattle.machine.specs.Machine.{Machine, noneSpent}
+use Rattle.machine.specs.Theorem.{Call, State, freshState, onCore, Agree}
+use Rattle.replay.specs.Replay.{Reading, listed, noCall, noStretch, numbersOf, machineLeft, machineReplay, placesFor, replayed, replayGave}
+use Rattle.replay.specs.ReplayParts.{verdictOf, Playable, afterPlay, coreLeft, coreNumbers, corePlayed}
 use Rattle.replay.specs.declared.ReplayAnswer.{ReplayAnswer}
 use Rattle.replay.specs.declared.ReplayAnswer.the-variants.{Played, NoCall, NoStretch, NoRoom}
 use Rattle.replay.proofs.Plays.{numbers-length}
@@ -20,9 +23,9 @@ use Rattle.machine.proofs.Theorem.{every-list}
 
 -- a verdict that the calls are played
 pub playable-when : (r : Reading) (room n : ℕ) → verdictOf r room ≡ Played n → Playable r room
-playable-when (listed calls) room n e = by (leb (23 * length calls) room) refl
+playable-when (listed calls) room n e = by (leb (placesFor calls) room) refl
   where
-    by : (b : Bool) → leb (23 * length calls) room ≡ b → 23 * length calls ≤ room
+    by : (b : Bool) → leb (placesFor calls) room ≡ b → placesFor calls ≤ room
     by true t = leb-true _ _ t
     by false t =
         let f : NoRoom ≡ Played n = ap (λ (b : Bool). cond b (Played (length calls)) NoRoom) (sym t) ∙ e in
@@ -31,21 +34,51 @@ playable-when (listed calls) room n e = by (leb (23 * length calls) room) refl
 playable-when (noCall i) room n e = let z : _≡_ {A = ℕ} 0 1 = cc in absurd (omega arith)
 playable-when (noStretch i) room n e = let z : _≡_ {A = ℕ} 0 1 = cc in absurd (omega arith)
 
+-- what a core is left as, where it agrees with the machine
+left-same : (c : List Answer × State) (m : List Answer × Machine) → Agree c m → coreLeft (c .1 .core) ≡ machineLeft (m .1)
+unfolding leftNumbers
+left-same c m g =
+    let due = g .due in
+    let spent = g .spent in
+    let clock = g .clock in
+    (λ j. leftNumbers (cond (due j) (eqb (spent j) 0) false) (visibleOf (c .1 .core)) (spent j) (clock j)) ∙ by (noneSpent (m .1)) refl
+  where
+    by : (none : Bool) → noneSpent (m .1) ≡ none
+        → leftNumbers (noneSpent (m .1)) (visibleOf (c .1 .core)) (m .1 .spent) (m .1 .clock) ≡ machineLeft (m .1)
+    by true h = ap (λ (v : Visible). leftNumbers (noneSpent (m .1)) v (m .1 .spent) (m .1 .clock)) (g .visible (eqb-true (m .1 .spent) 0 h))
+    by false h =
+        let stop = g .stop in
+        rw h (λ j. seenNumbers 6 (visible (replicate 16 0) 0 0 (flagsOf 0) (stop j)) (m .1 .spent) (m .1 .clock))
+
+-- what is played on the machine is what is played on the core
+pub by-the-core : (calls : List Call) (memory answers : List ℕ)
+    → let played : List Answer × State = play onCore calls (freshState memory) in
+    machineReplay calls memory answers ≡ replayGave (Played (length calls)) (played .1 .memory) (onto (coreNumbers played) answers)
+by-the-core calls memory answers =
+    let agree = every-list memory calls in
+    let after = sym (agree .memory) in
+    let said = sym (agree .answers) in
+    let left = sym (left-same _ _ agree) in
+    λ j. replayGave (Played (length calls)) (after j) (onto (numbersOf (said j) (left j)) answers)
+
+-- a list with places enough is played
+pub is-played : (calls : List Call) (memory answers : List ℕ) → placesFor calls ≤ length answers
+    → replayed (listed calls) memory answers ≡ machineReplay calls memory answers
+is-played calls memory answers h =
+    ap (λ (b : Bool). cond b (machineReplay calls memory answers) (replayGave NoRoom memory answers)) (le-leb _ _ h)
+
 -- what a list that can be played gives, by the core's play
 by-core : (r : Reading) (memory answers : List ℕ) → Playable r (length answers)
     → replayed r memory answers
     ≡ replayGave (verdictOf r (length answers)) (corePlayed r memory answers .memory) (corePlayed r memory answers .answers)
 by-core (listed calls) memory answers h =
-    let agree = every-list memory calls in
     let room = sym (le-leb _ _ h) in
-    let left = sym (agree .memory) in
-    let said = sym (agree .answers) in
-    let core = playCore calls freshCore memory .answers in
-    let size : length (numbersOf core) ≡ 23 * length calls = numbers-length calls freshCore memory in
-    ap (λ (b : Bool). cond b (machineReplay calls memory answers) (replayGave NoRoom memory answers)) (le-leb _ _ h)
-    ∙ (λ j. replayGave (cond (room j) (Played (length calls)) NoRoom) (left j) (onto (numbersOf (said j)) answers))
-    ∙ ap (replayGave (verdictOf (listed calls) (length answers)) (playCore calls freshCore memory .memory))
-    (sym (fitting (numbersOf core) answers (omega arith)))
+    let played = play onCore calls (freshState memory) in
+    let size : length (coreNumbers played) ≡ placesFor calls = numbers-length calls (freshState memory) in
+    let fits = sym (fitting (coreNumbers played) answers (omega arith)) in
+    is-played calls memory answers h
+    ∙ by-the-core calls memory answers
+    ∙ (λ j. replayGave (cond (room j) (Played (length calls)) NoRoom) (played .1 .memory) (fits j))
 by-core (noCall i) memory answers h = absurd h
 by-core (noStretch i) memory answers h = absurd h
 
@@ -58,9 +91,9 @@ NotPlayed NoRoom = Unit
 
 unchanged : (r : Reading) (memory answers : List ℕ) → NotPlayed (verdictOf r (length answers))
     → replayed r memory answers ≡ replayGave (verdictOf r (length answers)) memory answers
-unchanged (listed calls) memory answers h = by (leb (23 * length calls) (length answers)) refl
+unchanged (listed calls) memory answers h = by (leb (placesFor calls) (length answers)) refl
   where
-    by : (b : Bool) → leb (23 * length calls) (length answers) ≡ b
+    by : (b : Bool) → leb (placesFor calls) (length answers) ≡ b
         → replayed (listed calls) memory answers ≡ replayGave (verdictOf (listed calls) (length answers)) memory answers
     by true t = absurd (subst NotPlayed (ap (λ (b : Bool). cond b (Played (length calls)) NoRoom) t) h)
     by false t =

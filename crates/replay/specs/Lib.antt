@@ -1,3 +1,4 @@
 -- Lists of calls given as data.
 pub mod Replay
 pub mod ReplayParts
+pub mod Theorems

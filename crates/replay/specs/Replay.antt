@@ -5,10 +5,11 @@ use mathlib.Core.List.{List, [], _∷_, _++_}
 use Prim.Native.Nat.{ℕ, _+_, _-_, _*_}
 use lib.Dec.{eqb, leb}
 use lib.ListN.{length, take, drop}
-use Rattle.core.specs.Calls as core
-use Rattle.layout.specs.Layout.{answerSize, answerNumbers, onto}
-use Rattle.machine.specs.Machine.{freshMachine}
-use Rattle.machine.specs.Theorem.{Call, reset, load, run, step, view, MachinePlay, playMachine}
+use Rattle.core.specs.Calls.{Answer}
+use Rattle.layout.specs.Layout.{answerSize, answerNumbers, leftNumbers, onto}
+use Rattle.plays.specs.Plays.{play}
+use Rattle.machine.specs.Machine.{Machine, freshMachine, noneSpent}
+use Rattle.machine.specs.Theorem.{Call, reset, load, run, step, view, onMachine}
 use Rattle.replay.specs.declared.ListedCall.{ListedCall}
 use Rattle.replay.specs.declared.ListedCall.the-variants as listedCall
 use Rattle.replay.specs.declared.ReadCall.{ReadCall}
@@ -66,10 +67,10 @@ readFrom text i (a ∷ b ∷ c ∷ rest) = readThen text i (readCall a b c (leng
 abbrev pub readCalls : List ℕ → List ℕ → Reading
 readCalls text numbers = readFrom text 0 numbers
 
--- some answers, one after the other
-unfoldable pub numbersOf : List core.Answer → List ℕ
-numbersOf [] = []
-numbersOf (answer ∷ rest) = answerNumbers answer ++ numbersOf rest
+-- the numbers of some answers, one after the other, and then some more
+unfoldable pub numbersOf : List Answer → List ℕ → List ℕ
+numbersOf [] last = last
+numbersOf (answer ∷ rest) last = answerNumbers answer ++ numbersOf rest last
 
 -- what a replay gives back: its answer, and the lent memory and answers as they then are
 pub record Replayed : Type 0 where
@@ -81,18 +82,28 @@ abbrev pub replayGave : ReplayAnswer → List ℕ → List ℕ → Replayed
 replayGave answer memory answers = record { answer = answer; memory = memory; answers = answers }
 
 -- the calls played on the instruction machine, which starts fresh on the memory: the memory is the machine's, and its answers are written
--- from the first place on
-abbrev pub machinePlay : List Call → List ℕ → MachinePlay
-machinePlay calls memory = playMachine calls (freshMachine memory) []
+-- from the first place on, and then what the list left
+abbrev pub machinePlay : List Call → List ℕ → List Answer × Machine
+machinePlay calls memory = play onMachine calls (freshMachine memory)
+
+abbrev pub machineLeft : Machine → List ℕ
+machineLeft m = leftNumbers (noneSpent m) (m .visible) (m .spent) (m .clock)
+
+abbrev pub machineNumbers : List Answer × Machine → List ℕ
+machineNumbers p = numbersOf (p .0) (machineLeft (p .1))
 
 abbrev pub machineReplay : List Call → List ℕ → List ℕ → Replayed
 machineReplay calls memory answers =
-    replayGave (Played (length calls)) (machinePlay calls memory .machine .memory)
-    (onto (numbersOf (machinePlay calls memory .answers)) answers)
+    replayGave (Played (length calls)) (machinePlay calls memory .1 .memory)
+    (onto (machineNumbers (machinePlay calls memory)) answers)
 
--- a list that is read, and whose answers fit, is played; any other changes nothing
+-- the places that are written: 23 for each answer, and 23 for what the list left
+abbrev pub placesFor : List Call → ℕ
+placesFor calls = answerSize * (length calls + 1)
+
+-- a list that is read, where there are places enough, is played; any other changes nothing
 abbrev pub replayed : Reading → List ℕ → List ℕ → Replayed
 replayed (listed calls) memory answers =
-    cond (leb (answerSize * length calls) (length answers)) (machineReplay calls memory answers) (replayGave NoRoom memory answers)
+    cond (leb (placesFor calls) (length answers)) (machineReplay calls memory answers) (replayGave NoRoom memory answers)
 replayed (noCall i) memory answers = replayGave (NoCall i) memory answers
 replayed (noStretch i) memory answers = replayGave (NoStretch i) memory answers

@@ -1,13 +1,17 @@
 -- For the functions under `replay`: only contracts of private functions and proofs cite what is here.
 use mathlib.Core.Bool.{cond}
 use mathlib.Core.List.{List, [], _∷_}
-use Prim.Native.Nat.{ℕ, _*_, _≤_}
+use Prim.Native.Nat.{ℕ, _≤_}
 use lib.Dec.{leb}
 use lib.ListN.{length}
-use Rattle.core.specs.Cores.{freshCore}
-use Rattle.layout.specs.Layout.{answerSize, ontoIfRoom}
-use Rattle.machine.specs.Theorem.{playCore}
-use Rattle.replay.specs.Replay.{readCall, Reading, listed, noCall, noStretch, numbersOf}
+use Rattle.core.specs.Cores.{visibleOf}
+use Rattle.core.specs.Spent.{spentOf, dueOne}
+use Rattle.core.specs.Calls.{Answer}
+use Rattle.core.specs.declared.Core.{Core}
+use Rattle.layout.specs.Layout.{leftNumbers, ontoIfRoom}
+use Rattle.plays.specs.Plays.{play}
+use Rattle.machine.specs.Theorem.{State, freshState, onCore}
+use Rattle.replay.specs.Replay.{readCall, Reading, listed, noCall, noStretch, numbersOf, placesFor}
 use Rattle.replay.specs.declared.ListedCall.{ListedCall}
 use Rattle.replay.specs.declared.ListedCall.the-variants as listedCall
 use Rattle.replay.specs.declared.ReadCall.{ReadCall}
@@ -17,7 +21,7 @@ use Rattle.replay.specs.declared.ReplayAnswer.the-variants.{Played, NoCa
 
 -- what is found before anything is played
 abbrev pub verdictOf : Reading → ℕ → ReplayAnswer
-verdictOf (listed calls) room = cond (leb (answerSize * length calls) room) (Played (length calls)) NoRoom
+verdictOf (listed calls) room = cond (leb (placesFor calls) room) (Played (length calls)) NoRoom
 verdictOf (noCall i) room = NoCall i
 verdictOf (noStretch i) room = NoStretch i
 
@@ -47,9 +51,9 @@ ReadWhole size (readAs.Read call) = 3 ≤ size
 ReadWhole size readAs.NoCall = Unit
 ReadWhole size readAs.NoStretch = Unit
 
--- a list that can be played, with room for so many numbers of answers
+-- a list that can be played, with room for so many numbers
 abbrev pub Playable : Reading → ℕ → Type 0
-Playable (listed calls) room = answerSize * length calls ≤ room
+Playable (listed calls) room = placesFor calls ≤ room
 Playable (noCall i) room = ⊥
 Playable (noStretch i) room = ⊥
 
@@ -61,9 +65,16 @@ pub record AfterPlay : Type 0 where
 abbrev pub afterPlay : List ℕ → List ℕ → AfterPlay
 afterPlay memory answers = record { memory = memory; answers = answers }
 
+-- what a core is left as, and what is written of a play on it
+abbrev pub coreLeft : Core → List ℕ
+coreLeft core = leftNumbers (dueOne core) (visibleOf core) (spentOf core) (core .clock .0)
+
+abbrev pub coreNumbers : List Answer × State → List ℕ
+coreNumbers p = numbersOf (p .0) (coreLeft (p .1 .core))
+
 abbrev pub corePlayed : Reading → List ℕ → List ℕ → AfterPlay
 corePlayed (listed calls) memory answers =
-    let play = playCore calls freshCore memory in
-    afterPlay (play .memory) (ontoIfRoom (numbersOf (play .answers)) answers)
+    let played : List Answer × State = play onCore calls (freshState memory) in
+    afterPlay (played .1 .memory) (ontoIfRoom (coreNumbers played) answers)
 corePlayed (noCall i) memory answers = afterPlay memory answers
 corePlayed (noStretch i) memory answers = afterPlay memory answers

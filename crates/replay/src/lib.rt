@@ -4,7 +4,7 @@ ghost use mathlib.Core.List.{_++_};
 ghost use Prim.Native.Nat.{ℕ, _≤_};
 ghost use lib.ListN.{length, take, drop};
 ghost use Rattle.layout.specs.Layout.{ontoIfRoom, numbered, gave};
-ghost use Rattle.machine.specs.Theorem.{onCore};
+ghost use Rattle.machine.specs.Theorem.{replyTo};
 ghost use Rattle.replay.specs.Replay.{readStretch, readBudget, readCall, callOf, readCalls, replayed, replayGave};
 ghost use Rattle.replay.specs.ReplayParts.{frontCall, verdictOf, FitsIn, ReadFits, ReadWhole, Playable, corePlayed, afterPlay};
 use core::Core;
@@ -95,7 +95,7 @@ fn front_call(calls: &[u64], size: usize) -> ReadCall
     read_call(calls[0], calls[1], calls[2], size)
 }
 
-// Whether a list can be played, with room for so many numbers of answers.
+// Whether a list can be played, with room for so many numbers: 23 for each answer, and 23 for what the list leaves.
 fn check(calls: &[u64], text: &[u8], room: usize) -> ReplayAnswer
     ensures { λ r. ⌜ r ≡ verdictOf (readCalls (now (text .entry)) (now (calls .entry))) room ⌝ }
 {
@@ -111,7 +111,7 @@ fn check(calls: &[u64], text: &[u8], room: usize) -> ReplayAnswer
         at += 3;
         i += 1;
     }
-    if room / 23 < i {
+    if room / 23 <= i {
         return ReplayAnswer::NoRoom;
     }
     ReplayAnswer::Played(i)
@@ -120,7 +120,7 @@ fn check(calls: &[u64], text: &[u8], room: usize) -> ReplayAnswer
 // One call on a core.
 fn play(core: Core, call: ListedCall, text: &[u8], memory: &mut [u16]) -> Numbered
     requires { ⌜ FitsIn (length (now text)) call ⌝ }
-    ensures { λ r. ⌜ gave r (now (memory .exit)) ≡ numbered (onCore (callOf (now (text .entry)) call) core (now (memory .entry))) ⌝ }
+    ensures { λ r. ⌜ gave r (now (memory .exit)) ≡ numbered (replyTo (callOf (now (text .entry)) call) core (now (memory .entry))) ⌝ }
 {
     match call {
         ListedCall::Reset => layout::reset(core),
@@ -163,10 +163,11 @@ fn play_all(calls: &[u64], text: &[u8], memory: &mut [u16], answers: &mut [u64])
         at += 3;
         to += 23;
     }
+    put_at(answers, to, layout::left_numbers(core));
 }
 
-// Plays a list of calls on a fresh core and the lent memory, and writes the answers; a list that cannot be played changes nothing. What it
-// answers, writes and leaves in memory is what the instruction machine does.
+// Plays a list of calls on a fresh core and the lent memory, and writes the answers and then what the list left; a list that cannot be
+// played changes nothing. What it answers, writes and leaves in memory is what the instruction machine does.
 pub fn replay(calls: &[u64], text: &[u8], memory: &mut [u16], answers: &mut [u64]) -> ReplayAnswer
     ensures { λ r. ⌜ replayGave r (now (memory .exit)) (now (answers .exit)) ≡ replayed (readCalls (now (text .entry)) (now (calls .entry))) (now (memory .entry)) (now (answers .entry)) ⌝ }
 {

@@ -11,7 +11,9 @@ use Rattle.listing as listing
 use Rattle.core as core
 use Rattle.text as text
 use Rattle.layout as layout
+use Rattle.plays as plays
 use Rattle.machine as machine
+use Rattle.replay as replay
 use Rattle.script as script
 use Rattle.trace as trace
 use Rattle.r8 as r8
@@ -198,9 +200,35 @@ layout-answer-size = layout.proofs.Theorems.answer-size
 pub layout-answers-apart : layout.specs.Theorems.AnswersApart
 layout-answers-apart = layout.proofs.Theorems.answers-apart
 
+pub layout-left-apart : layout.specs.Theorems.LeftApart
+layout-left-apart = layout.proofs.Theorems.left-apart
+
+-- plays
+pub plays-plays-agree : plays.specs.Theorems.PlaysAgree
+plays-plays-agree = plays.proofs.Plays.plays-agree
+
+pub plays-plays-same : plays.specs.Theorems.PlaysSame
+plays-plays-same = plays.proofs.Plays.plays-same
+
+pub plays-plays-counted : plays.specs.Theorems.PlaysCounted
+plays-plays-counted = plays.proofs.Plays.plays-counted
+
 -- machine
 pub machine-every-list : machine.specs.Theorem.EveryList
 machine-every-list = machine.proofs.Theorem.every-list
+
+pub machine-every-list-made : machine.specs.Theorem.EveryListMade
+machine-every-list-made = machine.proofs.Made.every-list-made
+
+pub machine-contracts-kept : machine.specs.Theorem.ContractsKept
+machine-contracts-kept = machine.proofs.Made.contracts-kept
+
+pub machine-every-moment : machine.specs.Theorem.EveryMoment
+machine-every-moment = machine.proofs.Theorem.every-moment
+
+-- replay
+pub replay-core-told : replay.specs.Theorems.CoreTold
+replay-core-told = replay.proofs.Told.core-told
 
 -- script
 pub script-script-played : script.specs.Played.ScriptPlayed

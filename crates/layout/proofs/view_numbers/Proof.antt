@@ -6,7 +6,7 @@ use Rattle.layout.proofs.view_numbers.Tie as tie
 
 returns : tie.Need-returns
 unfolding answerNumbers
-returns c = cc
+returns c = rw (c .before .enum-told .given .1) (c .seen-numbers .ensures)
 
 returns-2 : tie.Need-returns-2
 unfolding answerNumbers

@@ -36,7 +36,7 @@ play-script-spec =
     tie.close
     (tie.spec
     (λ c κs. search needs) (λ c. search needs) (λ c κs. search needs) (λ c. search needs) (λ c. search needs)
-    (λ c. search needs) (λ c. search needs)
+    (λ c. search needs) (λ c. search needs) (λ c. search needs)
     slice-reshare-prefix-play
     slice-aggregate-play
     (λ c. search needs)

@@ -1,12 +1,13 @@
 -- `replay::play_all` meets its contract: the calls left, from where the play has come, give what the whole list gives. Assumes nothing.
-use mathlib.Core.Path.{sym, subst, _∙_}
-use Prim.Native.Nat.{_-_}
+use mathlib.Core.Path.{sym, ap, subst, _∙_}
+use mathlib.Core.List.{List, _++_}
+use Prim.Native.Nat.{ℕ, _-_}
 use native.Mathlib.Omega.{arith}
 use borrow.Author.Needs.{needs}
-use lib.ListN.{length}
-use Rattle.layout.specs.Layout.{gave}
+use lib.ListN.{length, take, drop}
+use Rattle.layout.specs.Layout.{ontoIfRoom, gave}
 use Rattle.replay.specs.Replay.{callOf}
-use Rattle.replay.specs.ReplayParts.{ReadFits}
+use Rattle.replay.specs.ReplayParts.{ReadFits, afterPlay}
 use Rattle.replay.specs.declared.ReadCall.the-variants as readAs
 use Rattle.replay.proofs.Readings.{read-whole}
 use Rattle.replay.proofs.Plays.{Reached, starts, reads-next, goes-on, ends, no-call-listed, no-stretch-listed}
@@ -68,8 +69,18 @@ add-to c =
     let next = loop-again c in
     omega (arith, next .room, next .same, c .before .before .before .before .before .before .before .before .before .before .before .before .before .before .before .before .before .before .before .before .before .before .good .1 .1 .1 .0 .0)
 
+put-at-requires-2 : tie.Need-put-at-requires-2 Inv-loop μ-loop
+put-at-requires-2 c κs = let r = c .before .before .before .loop .inv in omega (arith, r .room)
+
+-- the calls are over, and what they left is written
 returns-3 : tie.Need-returns-3 Inv-loop μ-loop
-returns-3 c = ends (c .before .loop .inv) (c .loop-test .left)
+returns-3 c =
+    let l = c .before .before .before .before .before in
+    let m = l .before .loop in
+    ends (m .inv) (l .loop-test .left)
+    ∙ ap (afterPlay (m .memory))
+    (ap (λ (numbers : List ℕ). take (m .to) (m .answers) ++ ontoIfRoom numbers (drop (m .to) (m .answers))) (sym (c .before .before .before .left-numbers .ensures))
+    ∙ sym (c .before .before .put-at2 .ensures))
 
 pub play-all-spec : {M : Type 1} → statement M
 play-all-spec =
@@ -91,5 +102,7 @@ play-all-spec =
     add-to
     (λ c. omega (arith, loop-again c .within))
     loop-again
+    (λ c κs. search needs)
+    put-at-requires-2
     (λ c. search needs) (λ c. search needs)
     returns-3)

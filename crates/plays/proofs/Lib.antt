@@ -1,0 +1,2 @@
+-- Proofs of the theorems on lists of calls.
+pub mod Plays

@@ -1,0 +1,30 @@
+-- What a replay tells of the calls of a core: one statement, proved in proofs/Told.antt.
+use mathlib.Core.Path.{_≡_}
+use mathlib.Core.List.{List, []}
+use Prim.Native.Nat.{ℕ, _*_, _≤_}
+use lib.ListN.{length, take, drop}
+use Rattle.core.specs.Cores.{visibleOf}
+use Rattle.core.specs.Spent.{spentOf, dueOne}
+use Rattle.core.specs.Calls.{Answer}
+use Rattle.core.specs.declared.Core.{Core}
+use Rattle.layout.specs.Layout.{answerSize, leftNumbers}
+use Rattle.plays.specs.Plays.{play}
+use Rattle.machine.specs.Theorem.{Call, State, freshState, onCore}
+use Rattle.replay.specs.Replay.{listed, numbersOf, placesFor, Replayed, replayed}
+use Rattle.replay.specs.declared.ReplayAnswer.the-variants.{Played}
+
+-- a list that is played tells what its calls, made on a fresh core, answer and leave: the memory, the answers in their order, and then the
+-- core that the last of them leaves; places behind that stay. What the promise of `replay` says by the machine is said here by the calls of
+-- the core: by `EveryList` it is the same (proved as `core-told`)
+abbrev pub CoreTold : Type 0
+CoreTold =
+    (calls : List Call) (memory answers : List ℕ) → placesFor calls ≤ length answers
+    → let told : Replayed = replayed (listed calls) memory answers in
+    let played : List Answer × State = play onCore calls (freshState memory) in
+    let core : Core = played .1 .core in
+    let behind : List ℕ = drop (answerSize * length calls) (told .answers) in
+    (told .answer ≡ Played (length calls))
+    × (told .memory ≡ played .1 .memory)
+    × (take (answerSize * length calls) (told .answers) ≡ numbersOf (played .0) [])
+    × (take answerSize behind ≡ leftNumbers (dueOne core) (visibleOf core) (spentOf core) (core .clock .0))
+    × (drop answerSize behind ≡ drop (placesFor calls) answers)
