@@ -2,7 +2,7 @@
 use mathlib.Core.Path.{_≡_, refl, sym, ap, subst, _∙_}
 use mathlib.Core.Bool.{Bool, true, false, cond}
 use mathlib.Core.List.{List}
-use Prim.Native.Nat.{ℕ, _≤_}
+use Prim.Native.Nat.{ℕ, _+_, _≤_}
 use native.Mathlib.Omega.{arith}
 use borrow.Author.Tests.{eqb-true, leb-true, le-leb}
 use lib.Dec.{eqb, leb}
@@ -12,7 +12,7 @@ use Rattle.core.specs.Calls.{Answer}
 use Rattle.layout.specs.Layout.{flagsOf, seenNumbers, leftNumbers, onto}
 use Rattle.layout.proofs.Onto.{fitting}
 use Rattle.plays.specs.Plays.{play}
-use Rattle.machine.specs.Machine.{Machine, noneSpent}
+use Rattle.machine.specs.Machine.{Machine, cyclesOf, noneSpent}
 use Rattle.machine.specs.Theorem.{Call, State, freshState, onCore, Agree}
 use Rattle.replay.specs.Replay.{Reading, listed, noCall, noStretch, numbersOf, machineLeft, machineReplay, placesFor, replayed, replayGave}
 use Rattle.replay.specs.ReplayParts.{verdictOf, Playable, afterPlay, coreLeft, coreNumbers, corePlayed}
@@ -40,15 +40,18 @@ unfolding leftNumbers
 left-same c m g =
     let due = g .due in
     let spent = g .spent in
-    let clock = g .clock in
-    (λ j. leftNumbers (cond (due j) (eqb (spent j) 0) false) (visibleOf (c .1 .core)) (spent j) (clock j)) ∙ by (noneSpent (m .1)) refl
+    let total = g .total in
+    (λ j. leftNumbers (cond (due j) (eqb (spent j) 0) false) (visibleOf (c .1 .core)) (spent j) (total j)) ∙ by (noneSpent (m .1)) refl
   where
+    clock : ℕ
+    clock = cyclesOf (m .1 .log) + m .1 .spent
+
     by : (none : Bool) → noneSpent (m .1) ≡ none
-        → leftNumbers (noneSpent (m .1)) (visibleOf (c .1 .core)) (m .1 .spent) (m .1 .clock) ≡ machineLeft (m .1)
-    by true h = ap (λ (v : Visible). leftNumbers (noneSpent (m .1)) v (m .1 .spent) (m .1 .clock)) (g .visible (eqb-true (m .1 .spent) 0 h))
+        → leftNumbers (noneSpent (m .1)) (visibleOf (c .1 .core)) (m .1 .spent) clock ≡ leftNumbers (noneSpent (m .1)) (m .1 .visible) (m .1 .spent) clock
+    by true h = ap (λ (v : Visible). leftNumbers (noneSpent (m .1)) v (m .1 .spent) clock) (g .visible (eqb-true (m .1 .spent) 0 h))
     by false h =
         let stop = g .stop in
-        rw h (λ j. seenNumbers 6 (visible (replicate 16 0) 0 0 (flagsOf 0) (stop j)) (m .1 .spent) (m .1 .clock))
+        rw h (λ j. seenNumbers 6 (visible (replicate 16 0) 0 0 (flagsOf 0) (stop j)) (m .1 .spent) clock)
 
 -- what is played on the machine is what is played on the core
 pub by-the-core : (calls : List Call) (memory answers : List ℕ)

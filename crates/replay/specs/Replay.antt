@@ -8,7 +8,7 @@ use lib.ListN.{length, take, drop}
 use Rattle.core.specs.Calls.{Answer}
 use Rattle.layout.specs.Layout.{answerSize, answerNumbers, leftNumbers, onto}
 use Rattle.plays.specs.Plays.{play}
-use Rattle.machine.specs.Machine.{Machine, freshMachine, noneSpent}
+use Rattle.machine.specs.Machine.{Machine, cyclesOf, freshMachine, noneSpent}
 use Rattle.machine.specs.Theorem.{Call, reset, load, run, step, view, onMachine}
 use Rattle.replay.specs.declared.ListedCall.{ListedCall}
 use Rattle.replay.specs.declared.ListedCall.the-variants as listedCall
@@ -86,8 +86,9 @@ replayGave answer memory answers = record { answer = answer; memory = memory; an
 abbrev pub machinePlay : List Call → List ℕ → List Answer × Machine
 machinePlay calls memory = play onMachine calls (freshMachine memory)
 
+-- 'the clock is the sum of the finished instructions' cycles since the last reset plus those of the unfinished one': it is told so, and is T
 abbrev pub machineLeft : Machine → List ℕ
-machineLeft m = leftNumbers (noneSpent m) (m .visible) (m .spent) (m .clock)
+machineLeft m = leftNumbers (noneSpent m) (m .visible) (m .spent) (cyclesOf (m .log) + m .spent)
 
 abbrev pub machineNumbers : List Answer × Machine → List ℕ
 machineNumbers p = numbersOf (p .0) (machineLeft (p .1))
