@@ -33,7 +33,8 @@ extern "C" {
 #define R8_LEFT 6
 
 /* Plays calls on a fresh core and the lent memory, one after the other, refused ones too, and writes the answer of each from answers[0]
- * on, and behind them what the list left; what is past that stays. A memory of 0 or of more than 65,536 words is taken: its loads, runs and steps answer number 1.
+ * on, and behind them what the list left; what is past that stays. A memory of 0 or of more than 65,536 words is taken: its loads, runs
+ * and steps answer number 1.
  * Returns 0, and *at is how many calls were played; or, with *at the index, from 0, of the first faulty call,
  *   1 where that is no call: its case is above 4, its budget above 4,294,967,295, or fewer than three numbers are left;
  *   2 where it is a load of no stretch of the text: first is above second, or second above text_count;

@@ -1,5 +1,5 @@
--- The theorem `ReadApart` of specs/TheoremsOfCalls.antt: different cases are read as different ones, and the parts of a case are found in what it
--- is read as. Assumes nothing.
+-- The theorems `ReadApart` and `ReadExactly` of specs/TheoremsOfCalls.antt: different cases are read as different ones, and the parts of a case are
+-- found in what it is read as. Assumes nothing.
 use mathlib.Core.Path.{_≡_, refl, ap}
 use Prim.Native.Nat.{ℕ, _≤_}
 use native.Mathlib.Omega.{arith}
@@ -15,7 +15,7 @@ use Rattle.listing.proofs.Apart.{faults-apart}
 use Rattle.core.specs.Calls.{viewed}
 use Rattle.core.specs.Answers.{loadAnswerOf, runAnswerOf, viewAnswerOf}
 use Rattle.core.specs.Cores.{Visible}
-use Rattle.core.specs.TheoremsOfCalls.{ReadApart}
+use Rattle.core.specs.TheoremsOfCalls.{ReadApart, ReadExactly}
 use Rattle.core.specs.declared.LoadAnswer.{LoadAnswer}
 use Rattle.core.specs.declared.LoadAnswer.the-variants as loading
 use Rattle.core.specs.declared.RunAnswer.{RunAnswer}
@@ -73,3 +73,7 @@ no-fault ClockFull n (low, high) e = omega arith
 
 pub read-apart : ReadApart
 read-apart = (load-apart, run-apart, view-apart, λ why fault e. no-fault why (faultNumber fault) (fault-range fault) e)
+
+pub read-exactly : ReadExactly
+read-exactly core memory l r v cycles instructions end =
+    ((refl, refl), (refl, refl), (refl, refl), (refl, refl), refl, refl, refl, refl, refl, refl, refl, refl, refl)

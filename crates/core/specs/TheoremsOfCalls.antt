@@ -1,5 +1,5 @@
 -- What the calls come to, for every core and memory: when a call is refused, and that it then changes nothing; what it does where it is
--- taken; and that different answers are read differently. Eight statements, proved in proofs/Refusals.antt, proofs/Taken.antt,
+-- taken; and that different answers are read differently, each by its own parts. Nine statements, proved in proofs/Refusals.antt, proofs/Taken.antt,
 -- proofs/Again.antt and proofs/Apart.antt.
 use mathlib.Core.Path.{_≡_}
 use mathlib.Core.Logic.{_↔_, _⊎_}
@@ -13,6 +13,7 @@ use Rattle.refusals.specs.declared.Refusal.{Refusal}
 use Rattle.listing.specs.Answers as listing
 use Rattle.listing.specs.Listing.{listingAnswer, listingMemory}
 use Rattle.listing.specs.declared.Fault.{Fault}
+use Rattle.isa.specs.declared.Cycles.{Cycles}
 use Rattle.effects.specs.declared.Stop.the-variants.{Going, Halted, Undefined}
 use Rattle.effects.specs.declared.Store.the-variants.{Nothing}
 use Rattle.effects.specs.Hidden.{noHidden}
@@ -20,16 +21,21 @@ use Rattle.core.specs.Cores.{freshCore, withHidden, visibleOf}
 use Rattle.core.specs.Instruction.{takes}
 use Rattle.core.specs.Progress.{starting, afterCycle}
 use Rattle.core.specs.Calls.{Answer, done, stored, ran, viewed, refused, refusedAt, Reply, reset, load, view, ranReply, run, step}
-use Rattle.core.specs.Answers.{loadAnswerOf, runAnswerOf, viewAnswerOf}
+use Rattle.core.specs.Answers.{loadAnswerOf, runAnswerOf, viewAnswerOf, shown, resetGave, loadGave, runGave, viewGave}
 use Rattle.core.specs.Datapath.{dueCycle, cycleOrIdle}
 use Rattle.core.specs.declared.Core.{Core}
+use Rattle.core.specs.declared.Instructions.{Instructions}
 use Rattle.core.specs.declared.End.{End}
 use Rattle.core.specs.declared.End.the-variants.{H, U, B, M}
 use Rattle.core.specs.declared.LoadAnswer.{LoadAnswer}
 use Rattle.core.specs.declared.RunAnswer.{RunAnswer}
+use Rattle.core.specs.declared.RunAnswer.the-variants.{Ran}
 use Rattle.core.specs.declared.ViewAnswer.{ViewAnswer}
 use Rattle.core.specs.declared.ViewAnswer.the-variants.{Viewed}
 use Rattle.core.specs.declared.Snapshot.{Snapshot}
+use Rattle.core.specs.declared.LoadReply.{LoadReply}
+use Rattle.core.specs.declared.RunReply.{RunReply}
+use Rattle.core.specs.declared.ViewReply.{ViewReply}
 
 -- '1: L is 0 or above 65,536'; '8: stopped'; '7: cycle due is not 1'
 abbrev pub WrongLength : List ℕ → Type 0
@@ -188,3 +194,26 @@ ReadApart =
     × ((x y : RunAnswer) → runAnswerOf x ≡ runAnswerOf y → x ≡ y)
     × ((a b : ViewAnswer) (s t : Snapshot) → viewAnswerOf a s ≡ viewAnswerOf b t → (a ≡ b) × (a ≡ Viewed → s ≡ t))
     × ((why : Refusal) (fault : Fault) → refusalNumber why ≡ listing.faultNumber fault → ⊥)
+
+-- a reply that hands back this core and this memory
+abbrev pub Hands : Core → List ℕ → Reply → Type 0
+Hands core memory reply = (reply .core ≡ core) × (reply .memory ≡ memory)
+
+-- what a call gave is read as handing back the very core that it gave, and the memory there is; a run is read as its own cycles, instructions
+-- and letter; and what a view shows is the core's, part by part, and is read as that (proved as `read-exactly`)
+abbrev pub ReadExactly : Type 0
+ReadExactly =
+    (core : Core) (memory : List ℕ) (l : LoadReply) (r : RunReply) (v : ViewReply) (cycles : Cycles) (instructions : Instructions) (end : End)
+    → Hands core memory (resetGave core memory)
+    × Hands (l .core) memory (loadGave l memory)
+    × Hands (r .core) memory (runGave r memory)
+    × Hands (v .core) memory (viewGave v memory)
+    × (runAnswerOf (Ran cycles instructions end) ≡ ran (cycles .0) (instructions .0) end)
+    × (shown core .regs ≡ core .regs)
+    × (shown core .pc ≡ core .pc)
+    × (shown core .sp ≡ core .sp)
+    × (shown core .flags ≡ core .flags)
+    × (shown core .stop ≡ core .stop)
+    × (shown core .due ≡ core .due)
+    × (shown core .clock ≡ core .clock)
+    × (viewAnswerOf Viewed (shown core) ≡ viewed (visibleOf core) (core .due) (core .clock .0))

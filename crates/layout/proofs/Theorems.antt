@@ -6,15 +6,15 @@ use Prim.Native.Nat.{ℕ, zero, suc, _+_}
 use native.Mathlib.Omega.{arith}
 use borrow.Author.Tests.{eq-eqb}
 use lib.Dec.{eqb}
-use lib.ListN.{length, getD, take, drop, drop-of-length-le}
+use lib.ListN.{length, getD, take, drop, replicate, drop-of-length-le}
 use lib.Seq.{drop-cons}
 use Rattle.effects.specs.declared.Stop.{Stop}
 use Rattle.effects.specs.declared.Stop.the-variants.{Going, Halted, Undefined}
-use Rattle.core.specs.Cores.{Visible}
+use Rattle.core.specs.Cores.{Visible, visible}
 use Rattle.core.specs.Calls.{Answer, done, stored, ran, viewed, refused, refusedAt}
 use Rattle.text.proofs.Apart.{endFrom, end-back}
 use Rattle.layout.specs.Layout.{flagsOf, stopNumber, bankNumbers, seenNumbers, answerNumbers, leftNumbers}
-use Rattle.layout.specs.Theorems.{AnswerSize, Whole, AnswersApart, LeftApart}
+use Rattle.layout.specs.Theorems.{AnswerSize, Whole, AnswersApart, LeftApart, Places}
 use Rattle.layout.proofs.Sizes.{numbers-size}
 use Rattle.layout.proofs.Back.{flags-back}
 
@@ -84,24 +84,33 @@ pub answers-apart : AnswersApart
 answers-apart a b ha hb e = sym (answer-back a ha) ∙ ap answerOf e ∙ answer-back b hb
 
 -- stop state, cycles spent and clock stand in their places, whether some are spent or none
-left-places : (none : Bool) (v : Visible) (spent clock : ℕ)
-    → let l : List ℕ = leftNumbers none v spent clock in
+left-places : (v : Visible) (spent clock : ℕ)
+    → let l : List ℕ = leftNumbers v spent clock in
     (getD l 22 0 ≡ clock) × (getD l 21 0 ≡ spent) × (stopOf (getD l 20 0) ≡ v .stop)
 unfolding leftNumbers
-left-places true v spent clock = (refl, refl, stop-back (v .stop))
-left-places false v spent clock = (refl, refl, stop-back (v .stop))
+left-places v spent clock = (refl, refl, by (eqb spent 0))
+  where
+    by : (none : Bool) → stopOf (stopNumber (cond none v (visible (replicate 16 0) 0 0 (flagsOf 0) (v .stop)) .stop)) ≡ v .stop
+    by true = stop-back (v .stop)
+    by false = stop-back (v .stop)
 
-left-back : (v : Visible) (spent clock : ℕ) → length (v .regs) ≡ 16 → spent ≡ 0 → seenOf (leftNumbers (eqb spent 0) v spent clock) ≡ v
+left-back : (v : Visible) (spent clock : ℕ) → length (v .regs) ≡ 16 → spent ≡ 0 → seenOf (leftNumbers v spent clock) ≡ v
 unfolding leftNumbers
 left-back v spent clock h none = rw (eq-eqb spent 0 none) (seen-back 6 v spent clock h)
 
 pub left-apart : LeftApart
 left-apart v w s t clock other hv hw e =
-    let a = left-places (eqb s 0) v s clock in
-    let b = left-places (eqb t 0) w t other in
+    let a = left-places v s clock in
+    let b = left-places w t other in
     let spent : s ≡ t = sym (a .1) ∙ ap (λ (l : List ℕ). getD l 21 0) e ∙ b .1 in (
       sym (a .0) ∙ ap (λ (l : List ℕ). getD l 22 0) e ∙ b .0,
       spent,
       sym (a .2) ∙ ap (λ (l : List ℕ). stopOf (getD l 20 0)) e ∙ b .2,
       λ none. sym (left-back v s clock hv none) ∙ ap seenOf e ∙ left-back w t other hw (sym spent ∙ none),
     )
+
+pub places : Places
+unfolding answerNumbers leftNumbers
+places a b end v cycle clock h =
+    let bank = bank-back (v .regs) h in
+    (refl, refl, refl, (refl, bank, refl, refl, refl, refl, refl, refl), refl, refl, (refl, bank, refl, refl, refl, refl, refl, refl))

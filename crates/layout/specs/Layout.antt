@@ -1,6 +1,6 @@
 -- Answers laid out as numbers, for lists of calls given as data and for other languages: 23 for each, the case first, then what it names,
 -- then zeros.
-use mathlib.Core.Bool.{Bool, true, false, cond}
+use mathlib.Core.Bool.{Bool, cond}
 use mathlib.Core.List.{List, [], _∷_, _++_}
 use Prim.Native.Nat.{ℕ, _+_, _-_, _*_, _/_, _%_}
 use lib.Dec.{eqb, leb}
@@ -76,12 +76,11 @@ answerNumbers (refusedAt number offset) = padded (5 ∷ number ∷ offset ∷ []
 
 -- what a list of calls left: 'the clock, the stop state and the cycles spent in an unfinished instruction, and between instructions R0
 -- to R15, PC, SP and flags', which are zero where an instruction is unfinished; laid out as a view is, with the cycles spent for the cycle due
-abbrev pub between : Bool → Visible → Visible
-between true v = v
-between false v = visible (replicate 16 0) 0 0 (flagsOf 0) (v .stop)
+abbrev pub between : ℕ → Visible → Visible
+between spent v = cond (eqb spent 0) v (visible (replicate 16 0) 0 0 (flagsOf 0) (v .stop))
 
-unfoldable pub leftNumbers : Bool → Visible → ℕ → ℕ → List ℕ
-leftNumbers noneSpent v spent clock = seenNumbers 6 (between noneSpent v) spent clock
+unfoldable pub leftNumbers : Visible → ℕ → ℕ → List ℕ
+leftNumbers v spent clock = seenNumbers 6 (between spent v) spent clock
 
 -- numbers written from the front of a list on; what is past them stays
 abbrev pub onto : List ℕ → List ℕ → List ℕ

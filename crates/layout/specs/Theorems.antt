@@ -1,11 +1,13 @@
--- Answers, and what a list of calls left, as numbers: three statements, proved in proofs/Theorems.antt.
+-- Answers, and what a list of calls left, as numbers: four statements, proved in proofs/Theorems.antt.
 use mathlib.Core.Path.{_≡_}
 use Prim.Native.Nat.{ℕ}
-use lib.Dec.{eqb}
-use lib.ListN.{length}
+use mathlib.Core.List.{List, [], _∷_}
+use lib.ListN.{length, getD, take, drop}
 use Rattle.core.specs.Cores.{Visible}
 use Rattle.core.specs.Calls.{Answer, done, stored, ran, viewed, refused, refusedAt}
-use Rattle.layout.specs.Layout.{answerSize, answerNumbers, leftNumbers}
+use Rattle.core.specs.declared.End.{End}
+use Rattle.text.specs.Text.{letterText}
+use Rattle.layout.specs.Layout.{answerSize, flagsNumber, stopNumber, answerNumbers, leftNumbers}
 
 -- every answer has 23 numbers (proved as `answer-size`)
 abbrev pub AnswerSize : Type 0
@@ -29,5 +31,29 @@ AnswersApart = (a b : Answer) → Whole a → Whole b → answerNumbers a ≡ an
 abbrev pub LeftApart : Type 0
 LeftApart =
     (v w : Visible) (s t clock other : ℕ) → length (v .regs) ≡ 16 → length (w .regs) ≡ 16
-    → leftNumbers (eqb s 0) v s clock ≡ leftNumbers (eqb t 0) w t other
+    → leftNumbers v s clock ≡ leftNumbers w t other
     → (clock ≡ other) × (s ≡ t) × (v .stop ≡ w .stop) × (s ≡ 0 → v ≡ w)
+
+-- where each number stands, case by case, as README and include/r8.h have it: the case first; of what is left, R0 to R15, PC, SP and flags
+-- where no cycle is spent (proved as `places`)
+abbrev pub SeenAt : ℕ → Visible → ℕ → ℕ → List ℕ → Type 0
+SeenAt kind v cycle clock l =
+    (getD l 0 0 ≡ kind)
+    × (take 16 (drop 1 l) ≡ v .regs)
+    × (getD l 17 0 ≡ v .pc)
+    × (getD l 18 0 ≡ v .sp)
+    × (getD l 19 0 ≡ flagsNumber (v .flags))
+    × (getD l 20 0 ≡ stopNumber (v .stop))
+    × (getD l 21 0 ≡ cycle)
+    × (getD l 22 0 ≡ clock)
+
+abbrev pub Places : Type 0
+Places =
+    (a b : ℕ) (end : End) (v : Visible) (cycle clock : ℕ) → length (v .regs) ≡ 16
+    → (take 1 (answerNumbers done) ≡ 0 ∷ [])
+    × (take 2 (answerNumbers (stored a)) ≡ 1 ∷ a ∷ [])
+    × (take 4 (answerNumbers (ran a b end)) ≡ 2 ∷ a ∷ b ∷ letterText end ∷ [])
+    × SeenAt 3 v cycle clock (answerNumbers (viewed v cycle clock))
+    × (take 2 (answerNumbers (refused a)) ≡ 4 ∷ a ∷ [])
+    × (take 3 (answerNumbers (refusedAt a b)) ≡ 5 ∷ a ∷ b ∷ [])
+    × SeenAt 6 v 0 clock (leftNumbers v 0 clock)

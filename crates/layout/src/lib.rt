@@ -6,7 +6,7 @@ ghost use Rattle.words.specs.Arithmetic.{bit};
 ghost use Rattle.core.specs.Calls.{done, refused, reset, load, run, step, view};
 ghost use Rattle.refusals.specs.Refusals.{refusalNumber};
 ghost use Rattle.core.specs.Cores.{visible, visibleOf};
-ghost use Rattle.core.specs.Spent.{spentOf, dueOne};
+ghost use Rattle.core.specs.Spent.{spentOf};
 ghost use Rattle.core.specs.Answers.{loadAnswerOf, runAnswerOf, viewAnswerOf};
 ghost use Rattle.layout.specs.Layout.{padded, flagsNumber, isOdd, flagsOf, stopNumber, seenNumbers, answerNumbers, leftNumbers, ontoIfRoom, numbered, gave};
 use core::Core;
@@ -206,14 +206,14 @@ pub fn view_numbers(answer: ViewAnswer, snapshot: Snapshot) -> [u64; 23]
     }
 }
 
-// What a list of calls left of a core. A view is refused in an unfinished instruction, and then shows zeros.
+// What a list of calls left of a core: of the registers and flags, where an instruction is unfinished, those of a fresh one.
 pub fn left_numbers(core: Core) -> [u64; 23]
-    ensures { λ r. ⌜ r ≡ leftNumbers (dueOne core) (visibleOf core) (spentOf core) (core .clock .0) ⌝ }
+    ensures { λ r. ⌜ r ≡ leftNumbers (visibleOf core) (spentOf core) (core .clock .0) ⌝ }
 {
     let stop = core.stop;
     let clock = core.clock;
     let spent = core.spent();
-    let seen = core.view().snapshot;
+    let seen = if spent == 0 { core } else { core::fresh() };
     let regs = seen.regs;
     let flags = seen.flags;
     seen_numbers(

@@ -1,10 +1,10 @@
 -- Each call, on a core and on the machine that it stands to: the same answer, the same memory, and the relation again.
-use mathlib.Core.Path.{_≡_, refl, sym, ap, subst, _∙_}
+use mathlib.Core.Path.{_≡_, refl, ap, subst, _∙_}
 use mathlib.Core.Bool.{Bool, true, false, not}
-use mathlib.Core.List.{List, [], _∷_}
+use mathlib.Core.List.{List}
 use Prim.Native.Nat.{ℕ, _+_, _≤_}
 use native.Mathlib.Omega.{arith}
-use native.Mathlib.Nat.{zero-add, add-assoc}
+use native.Mathlib.Nat.{zero-add}
 use borrow.Author.Tests.{eqb-true, eq-eqb}
 use lib.Dec.{eqb}
 use lib.ListN.{length}
@@ -12,7 +12,7 @@ use Rattle.effects.specs.declared.Stop.{Stop}
 use Rattle.effects.specs.declared.Stop.the-variants.{Going, Halted, Undefined}
 use Rattle.core.specs.Cores.{visibleOf, freshCore}
 use Rattle.core.specs.Spent.{dueOne}
-use Rattle.core.specs.Instruction.{after, memoryAfter, wordTakes, takes, stepTransition}
+use Rattle.core.specs.Instruction.{after, memoryAfter, takes, stepTransition}
 use Rattle.refusals.specs.Refusals.{wrongLength}
 use Rattle.core.specs.Numbers.{isGoing, loadNumber, runNumber, stepNumber, viewNumber}
 use Rattle.core.specs.Calls as core

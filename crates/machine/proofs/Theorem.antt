@@ -21,7 +21,7 @@ use Rattle.plays.specs.Plays.{play, counted}
 use Rattle.plays.proofs.Plays.{plays-agree, plays-counted}
 use Rattle.machine.specs.Machine as machine
 use Rattle.machine.specs.Machine.{Machine, cyclesOf, freshMachine, noneSpent, loaded, loopStart, loopOf, ranReply, stepped}
-use Rattle.machine.specs.Theorem.{Call, reset, load, run, step, view, State, freshState, replyTo, onCore, onMachine, finishedWith, EveryList, EveryMoment}
+use Rattle.machine.specs.Theorem.{Call, reset, load, run, step, view, State, freshState, handed, replyTo, onCore, onMachine, Alike, countedWith, EveryList, EveryMoment}
 use Rattle.machine.proofs.Runs.{log-grows}
 use Rattle.machine.proofs.Relation.{Related, rest, seen}
 use Rattle.machine.proofs.Calls.{call-same, visible-same}
@@ -42,7 +42,7 @@ each call s m j =
 
 -- what a call answers as finished is what it adds to the log
 record Counts (m : Machine) (r : Answer × Machine) : Type 0 where
-  same : finishedWith (r .0) (length (m .log)) ≡ length (r .1 .log)
+  same : countedWith (r .0) (length (m .log)) ≡ length (r .1 .log)
 
 unless-counts : (number : ℕ) (m : Machine) (r : Answer × Machine) → Counts m r → Counts m (machine.unless number m r)
 unless-counts number m r e = by (eqb number 0) refl
@@ -51,7 +51,7 @@ unless-counts number m r e = by (eqb number 0) refl
     by true h = rw h e
     by false h = rw h (record { same = refl })
 
-load-counts : (a : listing.Answer) (n : ℕ) → finishedWith (core.loadAnswer a) n ≡ n
+load-counts : (a : listing.Answer) (n : ℕ) → countedWith (core.loadAnswer a) n ≡ n
 load-counts (listing.stored count) n = refl
 load-counts (listing.refused number offset) n = refl
 
@@ -79,14 +79,13 @@ played memory calls =
     plays-agree Call State Machine Answer onCore onMachine Joined each calls (freshState memory) (freshMachine memory)
     (record { memory = refl; related = rest freshCore (freshMachine memory) refl refl refl refl refl })
 
-pub every-list : EveryList
-every-list memory calls =
-    let both = played memory calls in
-    let r = both .1 .related in
+-- what is joined is alike
+alike : {s : State} {m : Machine} → Joined s m → Alike s m
+alike j =
+    let r = j .related in
     let s = seen r in
     record {
-      answers = both .0;
-      memory = both .1 .memory;
+      memory = j .memory;
       clock = s .clock;
       stop = s .stop;
       due = s .due;
@@ -94,9 +93,17 @@ every-list memory calls =
       at-most-three = let few = s .few in omega arith;
       visible = visible-same r;
       total = s .clock ∙ sym (r .total);
+    }
+
+pub every-list : EveryList
+every-list memory calls =
+    let both = played memory calls in
+    record {
+      answers = both .0;
+      left = alike (both .1);
       finished =
-          ap (λ (answers : List Answer). counted finishedWith answers 0) (both .0)
-          ∙ plays-counted Call Machine Answer onMachine finishedWith (λ m. length (m .log)) (λ call m. counts call m .same) calls
+          ap (λ (answers : List Answer). counted countedWith answers 0) (both .0)
+          ∙ plays-counted Call Machine Answer onMachine countedWith (λ m. length (m .log)) (λ call m. counts call m .same) calls
           (freshMachine memory);
     }
 
@@ -117,5 +124,4 @@ every-moment memory calls b i used finished end taken few =
     let r = ready _ _ _ _ _ (not-refused _ (s .core) (s .memory) _ used finished end taken) in
     let room = r .room in
     let own = run-passed i (s .core) (s .memory) (r .size) (r .going) (r .due) (omega arith) in
-    let then = each (run i) s m (played memory calls .1) .1 in
-    (ap (λ (x : Reply). x .memory) (sym own) ∙ then .memory, ap (λ (x : Reply). x .core .clock .0) (sym own) ∙ seen (then .related) .clock)
+    subst (λ (x : Reply). Alike (handed x .1) (onMachine (run i) m .1)) own (alike (each (run i) s m (played memory calls .1) .1))

@@ -1,8 +1,9 @@
--- Demand 3: on every list of calls a core and the instruction machine agree; so do calls of the code, made one after the other; and a run's
--- memory agrees at every moment of it. Four statements, proved in proofs/Theorem.antt and proofs/Made.antt.
+-- Demand 3: on every list of calls a core and the instruction machine agree (`EveryList`); in the midst of a run too, by its definition
+-- cycle by cycle (`EveryMoment`); and so do calls of the code, made one after the other (`EveryListMade`, by the contracts of the functions:
+-- `ContractsKept`, `NothingAsked`). Five statements, proved in proofs/Theorem.antt and proofs/Made.antt.
 use mathlib.Core.Path.{_≡_}
 use mathlib.Core.Bool.{true}
-use mathlib.Core.List.{List, [], _∷_, map}
+use mathlib.Core.List.{List, map}
 use Prim.Native.Nat.{ℕ, _+_, _≤_}
 use lib.ListN.{length}
 use denote.Ref.{RefT, now}
@@ -11,7 +12,7 @@ use Rattle.core.specs.Spent.{spentOf, dueInRange}
 use Rattle.core.specs.Progress.{Progress, starting, cyclesOn}
 use Rattle.core.specs.Calls as core
 use Rattle.core.specs.Calls.{Answer, done, stored, ran, viewed, refused, refusedAt, Reply}
-use Rattle.core.specs.Answers.{resetGave, loadGave, runGave, viewGave}
+use Rattle.core.specs.Answers.{loadAnswerOf, runAnswerOf, viewAnswerOf, resetGave, loadGave, runGave, viewGave}
 use Rattle.core.specs.declared.Core.{Core}
 use Rattle.core.specs.declared.End.{End}
 use Rattle.core.specs.declared.LoadReply.{LoadReply}
@@ -48,11 +49,14 @@ pub record State : Type 0 where
   pub core : Core
   pub memory : List ℕ
 
+abbrev pub state : Core → List ℕ → State
+state core memory = record { core = core; memory = memory }
+
 abbrev pub freshState : List ℕ → State
-freshState memory = record { core = freshCore; memory = memory }
+freshState memory = state freshCore memory
 
 abbrev pub handed : Reply → Answer × State
-handed r = (r .answer, record { core = r .core; memory = r .memory })
+handed r = (r .answer, state (r .core) (r .memory))
 
 abbrev pub onCore : Call → State → Answer × State
 onCore call s = handed (replyTo call (s .core) (s .memory))
@@ -65,29 +69,35 @@ onMachine (run b) m = machine.run b m
 onMachine step m = machine.step m
 onMachine view m = machine.view m
 
--- 'instructions finished', as answered since the last reset, which alone answers `done`, or the start
-abbrev pub finishedWith : Answer → ℕ → ℕ
-finishedWith done n = 0
-finishedWith (stored count) n = n
-finishedWith (ran used finished end) n = n + finished
-finishedWith (viewed v due clock) n = n
-finishedWith (refused number) n = n
-finishedWith (refusedAt number offset) n = n
+-- how a core and its memory are those of a machine
+pub record Alike (s : State) (m : Machine) : Type 0 where
+  -- the memory, the clock T, the stop state
+  pub memory : s .memory ≡ m .memory
+  pub clock : s .core .clock .0 ≡ m .clock
+  pub stop : s .core .stop ≡ m .visible .stop
+  -- 'cycles spent (0 to 3), compared with the cycle due less one'
+  pub due : dueInRange (s .core) ≡ true
+  pub spent : spentOf (s .core) ≡ m .spent
+  pub at-most-three : m .spent ≤ 3
+  -- R0 to R15, PC, SP and flags, when s is 0
+  pub visible : m .spent ≡ 0 → visibleOf (s .core) ≡ m .visible
+  -- 'the clock is the sum of the finished instructions' cycles since the last reset plus those of the unfinished one'
+  pub total : s .core .clock .0 ≡ cyclesOf (m .log) + m .spent
 
--- what agrees: every answer, the memory, the clock T, the stop state, s with the cycles spent on the core (the cycle due, one of 1 to 4, less
--- one), and, where s is 0, R0 to R15, PC, SP and flags; the clock is the sum of the cycles of the instructions in the log plus s; and the log
--- has as many as were answered as finished
+-- instructions answered as finished since the last reset, which alone answers `done`, or the start
+abbrev pub countedWith : Answer → ℕ → ℕ
+countedWith done n = 0
+countedWith (stored count) n = n
+countedWith (ran used finished end) n = n + finished
+countedWith (viewed v due clock) n = n
+countedWith (refused number) n = n
+countedWith (refusedAt number offset) n = n
+
+-- what lists of calls come to: every answer is the same, the states are alike, and the log has as many as were answered as finished
 pub record Agree (c : List Answer × State) (m : List Answer × Machine) : Type 0 where
   pub answers : c .0 ≡ m .0
-  pub memory : c .1 .memory ≡ m .1 .memory
-  pub clock : c .1 .core .clock .0 ≡ m .1 .clock
-  pub stop : c .1 .core .stop ≡ m .1 .visible .stop
-  pub due : dueInRange (c .1 .core) ≡ true
-  pub spent : spentOf (c .1 .core) ≡ m .1 .spent
-  pub at-most-three : m .1 .spent ≤ 3
-  pub visible : m .1 .spent ≡ 0 → visibleOf (c .1 .core) ≡ m .1 .visible
-  pub total : c .1 .core .clock .0 ≡ cyclesOf (m .1 .log) + m .1 .spent
-  pub finished : counted finishedWith (c .0) 0 ≡ length (m .1 .log)
+  pub left : Alike (c .1) (m .1)
+  pub finished : counted countedWith (c .0) 0 ≡ length (m .1 .log)
 
 -- for every memory, of any length (those of 1 to 65,536 words among them) and whatever is in it, and every list of calls, from a
 -- fresh core and a fresh machine (proved as `every-list`)
@@ -96,60 +106,8 @@ EveryList =
     (memory : List ℕ) (calls : List Call)
     → Agree (play onCore calls (freshState memory)) (play onMachine calls (freshMachine memory))
 
--- The code: what a call gives back, with the memory as it then is. Reset and view are lent none
-abbrev pub Gives : Call → Type 0
-Gives reset = Core
-Gives (load text) = LoadReply × List ℕ
-Gives (run b) = RunReply × List ℕ
-Gives step = RunReply × List ℕ
-Gives view = ViewReply
-
-pub record Made : Type 0 where
-  pub call : Call
-  pub gave : Gives call
-
-abbrev pub made : (call : Call) → Gives call → Made
-made call gave = record { call = call; gave = gave }
-
--- read as a reply, on the memory there was
-abbrev pub replyOf : (call : Call) → Gives call → List ℕ → Reply
-replyOf reset r M = resetGave r M
-replyOf (load text) r M = loadGave (r .0) (r .1)
-replyOf (run b) r M = runGave (r .0) (r .1)
-replyOf step r M = runGave (r .0) (r .1)
-replyOf view r M = viewGave r M
-
-abbrev pub asMade : Made → State → Answer × State
-asMade m s = handed (replyOf (m .call) (m .gave) (s .memory))
-
--- the call met its contract, the equation `resetGave r ≡ reset self`, `loadGave r M′ ≡ load text self M`, `runGave r M′ ≡ run b self M`,
--- `runGave r M′ ≡ step self M` or `viewGave r ≡ view self`, on the core and the memory that it was made on
-abbrev pub Kept : Made → State → Type 0
-Kept m s = replyOf (m .call) (m .gave) (s .memory) ≡ replyTo (m .call) (s .core) (s .memory)
-
--- for every memory and every list of calls that were made, each on the core and the memory that the one before left, the first on a fresh
--- core, where each met its contract (proved as `every-list-made`). Of cores and memories that the caller changes between calls only the
--- contracts speak
-abbrev pub EveryListMade : Type 0
-EveryListMade =
-    (memory : List ℕ) (calls : List Made) → Each asMade Kept calls (freshState memory)
-    → Agree (play asMade calls (freshState memory)) (play onMachine (map (λ m. m .call) calls) (freshMachine memory))
-
--- and the contracts as they stand at the functions of `core` (what a caller learns of a call from it) are these equations, of every core, lent
--- memory and argument; `core::fresh` gives a fresh core (proved as `contracts-kept`)
-abbrev pub ContractsKept : Type 0
-ContractsKept =
-    (self c : Core) (text : RefT (List ℕ)) (M M′ : RefT (List ℕ)) (b : ℕ) (l : LoadReply) (r : RunReply) (v : ViewReply) (κ κ′ : List ℕ)
-    → let s : State = record { core = self; memory = now M } in
-    (contract-of-fresh.Learnt tt tt c tt → c ≡ freshCore)
-    × (contract-of-reset.Learnt tt (self, tt) c (self, tt) → Kept (made reset c) s)
-    × (contract-of-load.Learnt (κ, (κ′, tt)) (self, (text, (M, tt))) l (self, (text, (M′, tt))) → Kept (made (load (now text)) (l, now M′)) s)
-    × (contract-of-run.Learnt (κ, tt) (self, (b, (M, tt))) r (self, (b, (M′, tt))) → Kept (made (run b) (r, now M′)) s)
-    × (contract-of-step.Learnt (κ, tt) (self, (M, tt)) r (self, (M′, tt)) → Kept (made step (r, now M′)) s)
-    × (contract-of-view.Learnt tt (self, tt) v (self, tt) → Kept (made view v) s)
-
--- 'Memory is compared at every moment': where calls leave a core on which a run of b is taken, after each i up to b of its cycles the
--- memory and the clock are those of a machine run of i (proved as `every-moment`)
+-- 'Memory is compared at every moment, registers and flags when s is 0': where calls leave a core on which a run of b is taken, it is, after
+-- each i up to b of the run's cycles, alike to what a machine run of i leaves (proved as `every-moment`)
 abbrev pub EveryMoment : Type 0
 EveryMoment =
     (memory : List ℕ) (calls : List Call) (b i cycles instructions : ℕ) (end : End)
@@ -157,4 +115,68 @@ EveryMoment =
     let m : Machine = play onMachine calls (freshMachine memory) .1 in
     let moment : Progress = cyclesOn i (starting (s .core) (s .memory)) in
     onCore (run b) s .0 ≡ ran cycles instructions end → i ≤ b
-    → (moment .memory ≡ machine.run i m .1 .memory) × (moment .core .clock .0 ≡ machine.run i m .1 .clock)
+    → Alike (state (moment .core) (moment .memory)) (machine.run i m .1)
+
+-- The code: what a call gives back and, if it is lent the memory, the memory as it then is
+abbrev pub Given : Call → Type 0
+Given reset = Core
+Given (load text) = LoadReply × List ℕ
+Given (run b) = RunReply × List ℕ
+Given step = RunReply × List ℕ
+Given view = ViewReply
+
+pub record Made : Type 0 where
+  pub call : Call
+  pub given : Given call
+
+-- its answer, read, and the core and the memory that it left; M is the memory there was, which reset and view are not lent
+abbrev pub readAs : (call : Call) → Given call → List ℕ → Answer × State
+readAs reset c M = (done, state c M)
+readAs (load text) r M = (loadAnswerOf (r .0 .answer), state (r .0 .core) (r .1))
+readAs (run b) r M = (runAnswerOf (r .0 .answer), state (r .0 .core) (r .1))
+readAs step r M = (runAnswerOf (r .0 .answer), state (r .0 .core) (r .1))
+readAs view r M = (viewAnswerOf (r .answer) (r .snapshot), state (r .core) M)
+
+abbrev pub asMade : Made → State → Answer × State
+asMade m s = readAs (m .call) (m .given) (s .memory)
+
+-- the equation of its contract, on the core c and the memory M that it was made on
+abbrev pub Kept : (call : Call) → Given call → Core → List ℕ → Type 0
+Kept reset r c M = resetGave r M ≡ core.reset c M
+Kept (load text) r c M = loadGave (r .0) (r .1) ≡ core.load text c M
+Kept (run b) r c M = runGave (r .0) (r .1) ≡ core.run b c M
+Kept step r c M = runGave (r .0) (r .1) ≡ core.step c M
+Kept view r c M = viewGave r M ≡ core.view c M
+
+-- for every memory and every list of calls that were made, each on the core and the memory that the one before left, the first on a fresh
+-- core, where of each the equation holds (proved as `every-list-made`). If the caller changes core or memory between calls, this says
+-- nothing; the contracts still do
+abbrev pub EveryListMade : Type 0
+EveryListMade =
+    (memory : List ℕ) (calls : List Made)
+    → Each asMade (λ m s. Kept (m .call) (m .given) (s .core) (s .memory)) calls (freshState memory)
+    → Agree (play asMade calls (freshState memory)) (play onMachine (map (λ m. m .call) calls) (freshMachine memory))
+
+-- The contracts as they stand at the functions of `core` give these equations, of every core, lent memory and argument; and `core::fresh` gives
+-- a fresh core (proved as `contracts-kept`). `Learnt` is what the `ensures` of a function come to, for its callers; it takes the lifetimes
+-- of the references (κ), the arguments, the result, and the arguments again, at exit, when the lent memory M has become M′
+abbrev pub ContractsKept : Type 0
+ContractsKept =
+    (c next : Core) (text M M′ : RefT (List ℕ)) (b : ℕ) (l : LoadReply) (r : RunReply) (v : ViewReply) (κ κ′ : List ℕ)
+    → (contract-of-fresh.Learnt tt tt next tt → next ≡ freshCore)
+    × (contract-of-reset.Learnt tt (c, tt) next (c, tt) → Kept reset next c (now M))
+    × (contract-of-load.Learnt (κ, (κ′, tt)) (c, (text, (M, tt))) l (c, (text, (M′, tt))) → Kept (load (now text)) (l, now M′) c (now M))
+    × (contract-of-run.Learnt (κ, tt) (c, (b, (M, tt))) r (c, (b, (M′, tt))) → Kept (run b) (r, now M′) c (now M))
+    × (contract-of-step.Learnt (κ, tt) (c, (M, tt)) r (c, (M′, tt)) → Kept step (r, now M′) c (now M))
+    × (contract-of-view.Learnt tt (c, tt) v (c, tt) → Kept view v c (now M))
+
+-- and they ask nothing of their callers: `Asked` is what the `requires` come to (proved as `nothing-asked`)
+abbrev pub NothingAsked : Type 0
+NothingAsked =
+    (c : Core) (text M : RefT (List ℕ)) (b : ℕ) (κ κ′ : List ℕ)
+    → contract-of-fresh.Asked tt tt
+    × contract-of-reset.Asked tt (c, tt)
+    × contract-of-load.Asked (κ, (κ′, tt)) (c, (text, (M, tt)))
+    × contract-of-run.Asked (κ, tt) (c, (b, (M, tt)))
+    × contract-of-step.Asked (κ, tt) (c, (M, tt))
+    × contract-of-view.Asked tt (c, tt)

@@ -1,20 +1,18 @@
 -- Laws about a list of calls played on a core: where a play starts, one call more, and where it ends.
 use mathlib.Core.Path.{_≡_, refl, sym, ap, subst, _∙_}
-use mathlib.Core.Bool.{Bool, true, false}
 use mathlib.Core.List.{List, [], _∷_, _++_}
 use Prim.Native.Nat.{ℕ, _+_, _-_, _*_, _<_, _≤_}
 use native.Mathlib.Omega.{arith}
 use lib.ListN.{length, take, drop, length-append}
-use Rattle.core.specs.Cores.{Visible, visibleOf, freshCore}
-use Rattle.core.specs.Spent.{spentOf, dueOne}
+use Rattle.core.specs.Cores.{freshCore}
 use Rattle.core.specs.Calls.{Answer}
 use Rattle.core.specs.declared.Core.{Core}
 use Rattle.layout.specs.Layout.{answerNumbers, leftNumbers, ontoIfRoom, NumberedReply, numbered}
 use Rattle.layout.proofs.Sizes.{numbers-size}
 use Rattle.layout.proofs.Onto.{in-two-parts}
 use Rattle.plays.specs.Plays.{play}
-use Rattle.machine.specs.Theorem.{Call, State, replyTo, onCore}
-use Rattle.replay.specs.Replay.{Reading, listed, noCall, noStretch, following, readThen, readFrom, readCalls, numbersOf}
+use Rattle.machine.specs.Theorem.{Call, State, state, replyTo, onCore}
+use Rattle.replay.specs.Replay.{Reading, listed, noCall, noStretch, following, readThen, readFrom, readCalls, numbersThen}
 use Rattle.replay.specs.declared.ReadCall.{ReadCall}
 use Rattle.replay.proofs.Readings.{reads-at, none-left}
 use Rattle.replay.specs.ReplayParts.{frontCall, Playable, AfterPlay, afterPlay, coreLeft, coreNumbers, corePlayed}
@@ -40,16 +38,12 @@ split-first call (noCall i) calls e = absurd (no-call-listed calls i e)
 split-first call (noStretch i) calls e = absurd (no-stretch-listed calls i e)
 
 -- how many numbers are written of a play
-left-numbers-size : (one : Bool) (v : Visible) (spent clock : ℕ) → length (leftNumbers one v spent clock) ≡ 23
-unfolding leftNumbers
-left-numbers-size true v spent clock = refl
-left-numbers-size false v spent clock = refl
-
 pub left-size : (core : Core) → length (coreLeft core) ≡ 23
-left-size core = left-numbers-size (dueOne core) (visibleOf core) (spentOf core) (core .clock .0)
+unfolding leftNumbers
+left-size core = refl
 
 pub numbers-length : (calls : List Call) (s : State) → length (coreNumbers (play onCore calls s)) ≡ 23 * (length calls + 1)
-unfolding play numbersOf
+unfolding play numbersThen
 numbers-length [] s = left-size (s .core)
 numbers-length (call ∷ rest) s =
     let next = onCore call s in
@@ -57,9 +51,6 @@ numbers-length (call ∷ rest) s =
     let after : length more ≡ 23 * (length rest + 1) = numbers-length rest (next .1) in
     let first : length (answerNumbers (next .0)) ≡ 23 = numbers-size (next .0) in
     length-append (answerNumbers (next .0)) more ∙ omega arith
-
-abbrev state : Core → List ℕ → State
-state core memory = record { core = core; memory = memory }
 
 -- what a play of some calls leaves, with its numbers written from a place on
 abbrev from : List Call → State → List ℕ → ℕ → AfterPlay
@@ -74,7 +65,7 @@ from-next : (call : Call) (rest : List Call) (s : State) (answers : List ℕ) (t
     → reply ≡ numbered (replyTo call (s .core) (s .memory)) → to + 23 * (length (call ∷ rest) + 1) ≤ length answers
     → from (call ∷ rest) s answers to
     ≡ from rest (state (reply .core) (reply .memory)) (take to answers ++ ontoIfRoom (reply .numbers) (drop to answers)) (to + 23)
-unfolding play numbersOf
+unfolding play numbersThen
 from-next call rest s answers to reply e room =
     let more = coreNumbers (play onCore rest (state (reply .core) (reply .memory))) in
     let size : length (reply .numbers) ≡ 23 =
@@ -153,5 +144,5 @@ module _ {text calls memory₀ answers₀ : List ℕ} {core : Core} {memory answ
 
   pub ends : length calls ≤ at
       → corePlayed (readCalls text calls) memory₀ answers₀ ≡ afterPlay memory (take to answers ++ ontoIfRoom (coreLeft core) (drop to answers))
-  unfolding play numbersOf
+  unfolding play numbersThen
   ends h = r .gives ∙ ap (λ (l : List Call). from l (state core memory) answers to) (over h)

@@ -12,9 +12,9 @@ use Rattle.core.specs.Calls.{Answer}
 use Rattle.layout.specs.Layout.{flagsOf, seenNumbers, leftNumbers, onto}
 use Rattle.layout.proofs.Onto.{fitting}
 use Rattle.plays.specs.Plays.{play}
-use Rattle.machine.specs.Machine.{Machine, cyclesOf, noneSpent}
+use Rattle.machine.specs.Machine.{Machine, cyclesOf}
 use Rattle.machine.specs.Theorem.{Call, State, freshState, onCore, Agree}
-use Rattle.replay.specs.Replay.{Reading, listed, noCall, noStretch, numbersOf, machineLeft, machineReplay, placesFor, replayed, replayGave}
+use Rattle.replay.specs.Replay.{Reading, listed, noCall, noStretch, numbersThen, machineLeft, machineReplay, placesFor, replayed, replayGave}
 use Rattle.replay.specs.ReplayParts.{verdictOf, Playable, afterPlay, coreLeft, coreNumbers, corePlayed}
 use Rattle.replay.specs.declared.ReplayAnswer.{ReplayAnswer}
 use Rattle.replay.specs.declared.ReplayAnswer.the-variants.{Played, NoCall, NoStretch, NoRoom}
@@ -38,20 +38,17 @@ playable-when (noStretch i) room n e = let z : _≡_ {A = ℕ} 0 1 = cc in absur
 left-same : (c : List Answer × State) (m : List Answer × Machine) → Agree c m → coreLeft (c .1 .core) ≡ machineLeft (m .1)
 unfolding leftNumbers
 left-same c m g =
-    let due = g .due in
-    let spent = g .spent in
-    let total = g .total in
-    (λ j. leftNumbers (cond (due j) (eqb (spent j) 0) false) (visibleOf (c .1 .core)) (spent j) (total j)) ∙ by (noneSpent (m .1)) refl
+    let spent = g .left .spent in
+    let total = g .left .total in
+    (λ j. leftNumbers (visibleOf (c .1 .core)) (spent j) (total j)) ∙ by (eqb (m .1 .spent) 0) refl
   where
-    clock : ℕ
-    clock = cyclesOf (m .1 .log) + m .1 .spent
-
-    by : (none : Bool) → noneSpent (m .1) ≡ none
-        → leftNumbers (noneSpent (m .1)) (visibleOf (c .1 .core)) (m .1 .spent) clock ≡ leftNumbers (noneSpent (m .1)) (m .1 .visible) (m .1 .spent) clock
-    by true h = ap (λ (v : Visible). leftNumbers (noneSpent (m .1)) v (m .1 .spent) clock) (g .visible (eqb-true (m .1 .spent) 0 h))
+    by : (none : Bool) → eqb (m .1 .spent) 0 ≡ none
+        → leftNumbers (visibleOf (c .1 .core)) (m .1 .spent) (cyclesOf (m .1 .log) + m .1 .spent) ≡ machineLeft (m .1)
+    by true h =
+        ap (λ (v : Visible). leftNumbers v (m .1 .spent) (cyclesOf (m .1 .log) + m .1 .spent)) (g .left .visible (eqb-true (m .1 .spent) 0 h))
     by false h =
-        let stop = g .stop in
-        rw h (λ j. seenNumbers 6 (visible (replicate 16 0) 0 0 (flagsOf 0) (stop j)) (m .1 .spent) clock)
+        let stop = g .left .stop in
+        rw h (λ j. seenNumbers 6 (visible (replicate 16 0) 0 0 (flagsOf 0) (stop j)) (m .1 .spent) (cyclesOf (m .1 .log) + m .1 .spent))
 
 -- what is played on the machine is what is played on the core
 pub by-the-core : (calls : List Call) (memory answers : List ℕ)
@@ -59,10 +56,10 @@ pub by-the-core : (calls : List Call) (memory answers : List ℕ)
     machineReplay calls memory answers ≡ replayGave (Played (length calls)) (played .1 .memory) (onto (coreNumbers played) answers)
 by-the-core calls memory answers =
     let agree = every-list memory calls in
-    let after = sym (agree .memory) in
+    let after = sym (agree .left .memory) in
     let said = sym (agree .answers) in
     let left = sym (left-same _ _ agree) in
-    λ j. replayGave (Played (length calls)) (after j) (onto (numbersOf (said j) (left j)) answers)
+    λ j. replayGave (Played (length calls)) (after j) (onto (numbersThen (said j) (left j)) answers)
 
 -- a list with places enough is played
 pub is-played : (calls : List Call) (memory answers : List ℕ) → placesFor calls ≤ length answers

@@ -6,28 +6,28 @@ use native.Mathlib.Omega.{arith}
 use lib.ListN.{length, take, drop, length-append}
 use lib.Seq.{take-at, drop-at}
 use Rattle.core.specs.Calls.{Answer}
-use Rattle.layout.specs.Layout.{answerNumbers, onto}
+use Rattle.layout.specs.Layout.{answerNumbers}
 use Rattle.plays.specs.Plays.{play}
 use Rattle.machine.specs.Theorem.{freshState, onCore}
-use Rattle.replay.specs.Replay.{numbersOf, placesFor, Replayed}
+use Rattle.replay.specs.Replay.{numbersThen, placesFor, Replayed}
 use Rattle.replay.specs.ReplayParts.{coreLeft, coreNumbers}
 use Rattle.replay.specs.Theorems.{CoreTold}
 use Rattle.replay.proofs.Plays.{left-size, numbers-length}
 use Rattle.replay.proofs.Replayed.{is-played, by-the-core}
 
 -- the numbers of answers, then more
-numbers-then : (answers : List Answer) (last : List ℕ) → numbersOf answers last ≡ numbersOf answers [] ++ last
-unfolding numbersOf
+numbers-then : (answers : List Answer) (last : List ℕ) → numbersThen answers last ≡ numbersThen answers [] ++ last
+unfolding numbersThen
 numbers-then [] last = refl
 numbers-then (a ∷ rest) last =
     ap (λ (l : List ℕ). answerNumbers a ++ l) (numbers-then rest last)
-    ∙ sym (append-assoc (answerNumbers a) (numbersOf rest []) last)
+    ∙ sym (append-assoc (answerNumbers a) (numbersThen rest []) last)
 
 pub core-told : CoreTold
 core-told calls memory answers h =
     let told = is-played calls memory answers h ∙ by-the-core calls memory answers in
     let played = play onCore calls (freshState memory) in
-    let said = numbersOf (played .0) [] in
+    let said = numbersThen (played .0) [] in
     let left = coreLeft (played .1 .core) in
     let rest = drop (length (coreNumbers played)) answers in
     let whole : length (coreNumbers played) ≡ placesFor calls = numbers-length calls (freshState memory) in

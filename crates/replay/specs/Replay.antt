@@ -8,7 +8,7 @@ use lib.ListN.{length, take, drop}
 use Rattle.core.specs.Calls.{Answer}
 use Rattle.layout.specs.Layout.{answerSize, answerNumbers, leftNumbers, onto}
 use Rattle.plays.specs.Plays.{play}
-use Rattle.machine.specs.Machine.{Machine, cyclesOf, freshMachine, noneSpent}
+use Rattle.machine.specs.Machine.{Machine, cyclesOf, freshMachine}
 use Rattle.machine.specs.Theorem.{Call, reset, load, run, step, view, onMachine}
 use Rattle.replay.specs.declared.ListedCall.{ListedCall}
 use Rattle.replay.specs.declared.ListedCall.the-variants as listedCall
@@ -68,9 +68,9 @@ abbrev pub readCalls : List ℕ → List ℕ → Reading
 readCalls text numbers = readFrom text 0 numbers
 
 -- the numbers of some answers, one after the other, and then some more
-unfoldable pub numbersOf : List Answer → List ℕ → List ℕ
-numbersOf [] last = last
-numbersOf (answer ∷ rest) last = answerNumbers answer ++ numbersOf rest last
+unfoldable pub numbersThen : List Answer → List ℕ → List ℕ
+numbersThen [] last = last
+numbersThen (answer ∷ rest) last = answerNumbers answer ++ numbersThen rest last
 
 -- what a replay gives back: its answer, and the lent memory and answers as they then are
 pub record Replayed : Type 0 where
@@ -88,10 +88,10 @@ machinePlay calls memory = play onMachine calls (freshMachine memory)
 
 -- 'the clock is the sum of the finished instructions' cycles since the last reset plus those of the unfinished one': it is told so, and is T
 abbrev pub machineLeft : Machine → List ℕ
-machineLeft m = leftNumbers (noneSpent m) (m .visible) (m .spent) (cyclesOf (m .log) + m .spent)
+machineLeft m = leftNumbers (m .visible) (m .spent) (cyclesOf (m .log) + m .spent)
 
 abbrev pub machineNumbers : List Answer × Machine → List ℕ
-machineNumbers p = numbersOf (p .0) (machineLeft (p .1))
+machineNumbers p = numbersThen (p .0) (machineLeft (p .1))
 
 abbrev pub machineReplay : List Call → List ℕ → List ℕ → Replayed
 machineReplay calls memory answers =

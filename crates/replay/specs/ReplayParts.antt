@@ -5,13 +5,13 @@ use Prim.Native.Nat.{ℕ, _≤_}
 use lib.Dec.{leb}
 use lib.ListN.{length}
 use Rattle.core.specs.Cores.{visibleOf}
-use Rattle.core.specs.Spent.{spentOf, dueOne}
+use Rattle.core.specs.Spent.{spentOf}
 use Rattle.core.specs.Calls.{Answer}
 use Rattle.core.specs.declared.Core.{Core}
 use Rattle.layout.specs.Layout.{leftNumbers, ontoIfRoom}
 use Rattle.plays.specs.Plays.{play}
 use Rattle.machine.specs.Theorem.{State, freshState, onCore}
-use Rattle.replay.specs.Replay.{readCall, Reading, listed, noCall, noStretch, numbersOf, placesFor}
+use Rattle.replay.specs.Replay.{readCall, Reading, listed, noCall, noStretch, numbersThen, placesFor}
 use Rattle.replay.specs.declared.ListedCall.{ListedCall}
 use Rattle.replay.specs.declared.ListedCall.the-variants as listedCall
 use Rattle.replay.specs.declared.ReadCall.{ReadCall}
@@ -67,10 +67,10 @@ afterPlay memory answers = record { memory = memory; answers = answers }
 
 -- what a core is left as, and what is written of a play on it
 abbrev pub coreLeft : Core → List ℕ
-coreLeft core = leftNumbers (dueOne core) (visibleOf core) (spentOf core) (core .clock .0)
+coreLeft core = leftNumbers (visibleOf core) (spentOf core) (core .clock .0)
 
 abbrev pub coreNumbers : List Answer × State → List ℕ
-coreNumbers p = numbersOf (p .0) (coreLeft (p .1 .core))
+coreNumbers p = numbersThen (p .0) (coreLeft (p .1 .core))
 
 abbrev pub corePlayed : Reading → List ℕ → List ℕ → AfterPlay
 corePlayed (listed calls) memory answers =

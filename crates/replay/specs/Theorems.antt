@@ -4,13 +4,13 @@ use mathlib.Core.List.{List, []}
 use Prim.Native.Nat.{ℕ, _*_, _≤_}
 use lib.ListN.{length, take, drop}
 use Rattle.core.specs.Cores.{visibleOf}
-use Rattle.core.specs.Spent.{spentOf, dueOne}
+use Rattle.core.specs.Spent.{spentOf}
 use Rattle.core.specs.Calls.{Answer}
 use Rattle.core.specs.declared.Core.{Core}
 use Rattle.layout.specs.Layout.{answerSize, leftNumbers}
 use Rattle.plays.specs.Plays.{play}
 use Rattle.machine.specs.Theorem.{Call, State, freshState, onCore}
-use Rattle.replay.specs.Replay.{listed, numbersOf, placesFor, Replayed, replayed}
+use Rattle.replay.specs.Replay.{listed, numbersThen, placesFor, Replayed, replayed}
 use Rattle.replay.specs.declared.ReplayAnswer.the-variants.{Played}
 
 -- a list that is played tells what its calls, made on a fresh core, answer and leave: the memory, the answers in their order, and then the
@@ -25,6 +25,6 @@ CoreTold =
     let behind : List ℕ = drop (answerSize * length calls) (told .answers) in
     (told .answer ≡ Played (length calls))
     × (told .memory ≡ played .1 .memory)
-    × (take (answerSize * length calls) (told .answers) ≡ numbersOf (played .0) [])
-    × (take answerSize behind ≡ leftNumbers (dueOne core) (visibleOf core) (spentOf core) (core .clock .0))
+    × (take (answerSize * length calls) (told .answers) ≡ numbersThen (played .0) [])
+    × (take answerSize behind ≡ leftNumbers (visibleOf core) (spentOf core) (core .clock .0))
     × (drop answerSize behind ≡ drop (placesFor calls) answers)

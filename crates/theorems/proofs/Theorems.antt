@@ -186,6 +186,9 @@ core-others-taken = core.proofs.Taken.others-taken
 pub core-read-apart : core.specs.TheoremsOfCalls.ReadApart
 core-read-apart = core.proofs.Apart.read-apart
 
+pub core-read-exactly : core.specs.TheoremsOfCalls.ReadExactly
+core-read-exactly = core.proofs.Apart.read-exactly
+
 -- text
 pub text-letters-apart : text.specs.Theorems.LettersApart
 text-letters-apart = text.proofs.Apart.letters-apart
@@ -203,7 +206,16 @@ layout-answers-apart = layout.proofs.Theorems.answers-apart
 pub layout-left-apart : layout.specs.Theorems.LeftApart
 layout-left-apart = layout.proofs.Theorems.left-apart
 
+pub layout-places : layout.specs.Theorems.Places
+layout-places = layout.proofs.Theorems.places
+
 -- plays
+pub plays-play-exactly : plays.specs.Theorems.PlayExactly
+plays-play-exactly = plays.proofs.Plays.play-exactly
+
+pub plays-each-exactly : plays.specs.Theorems.EachExactly
+plays-each-exactly = plays.proofs.Plays.each-exactly
+
 pub plays-plays-agree : plays.specs.Theorems.PlaysAgree
 plays-plays-agree = plays.proofs.Plays.plays-agree
 
@@ -217,14 +229,17 @@ plays-plays-counted = plays.proofs.Plays.plays-counted
 pub machine-every-list : machine.specs.Theorem.EveryList
 machine-every-list = machine.proofs.Theorem.every-list
 
+pub machine-every-moment : machine.specs.Theorem.EveryMoment
+machine-every-moment = machine.proofs.Theorem.every-moment
+
 pub machine-every-list-made : machine.specs.Theorem.EveryListMade
 machine-every-list-made = machine.proofs.Made.every-list-made
 
 pub machine-contracts-kept : machine.specs.Theorem.ContractsKept
 machine-contracts-kept = machine.proofs.Made.contracts-kept
 
-pub machine-every-moment : machine.specs.Theorem.EveryMoment
-machine-every-moment = machine.proofs.Theorem.every-moment
+pub machine-nothing-asked : machine.specs.Theorem.NothingAsked
+machine-nothing-asked = machine.proofs.Made.nothing-asked
 
 -- replay
 pub replay-core-told : replay.specs.Theorems.CoreTold
