@@ -28,8 +28,8 @@ extern "C" {
 #define R8_REFUSED 4    /* number 1, 7, 8 or 9 */
 #define R8_REFUSED_AT 5 /* number 2, 3 or 4, then where the faulty line starts, counted from the start of what was to be loaded */
 
-/* What a list of calls left, as 23 numbers laid out as R8_VIEWED is, with the cycles spent in an unfinished instruction, 0 to 3, for the
- * cycle due. Where some are spent, R0 to R15, PC, SP and 8N+4Z+2C+V are 0. */
+/* What a list of calls left is 23 numbers too: the case, then as of R8_VIEWED, with the cycles spent in an unfinished instruction, 0 to 3, in
+ * place of the cycle due. Where some are spent, R0 to R15, PC, SP and 8N+4Z+2C+V are 0. */
 #define R8_LEFT 6
 
 /* Plays calls on a fresh core and the lent memory, one after the other, refused ones too, and writes the answer of each from answers[0]

@@ -75,5 +75,5 @@ pub read-apart : ReadApart
 read-apart = (load-apart, run-apart, view-apart, λ why fault e. no-fault why (faultNumber fault) (fault-range fault) e)
 
 pub read-exactly : ReadExactly
-read-exactly core memory l r v cycles instructions end =
-    ((refl, refl), (refl, refl), (refl, refl), (refl, refl), refl, refl, refl, refl, refl, refl, refl, refl, refl)
+read-exactly core memory l r v n fault cycles instructions end =
+    ((refl, refl), (refl, refl), (refl, refl), (refl, refl), refl, refl, refl, refl, refl, refl, refl, refl, refl, refl, refl)

@@ -28,6 +28,7 @@ use Rattle.core.specs.declared.Instructions.{Instructions}
 use Rattle.core.specs.declared.End.{End}
 use Rattle.core.specs.declared.End.the-variants.{H, U, B, M}
 use Rattle.core.specs.declared.LoadAnswer.{LoadAnswer}
+use Rattle.core.specs.declared.LoadAnswer.the-variants.{Stored, Faulty}
 use Rattle.core.specs.declared.RunAnswer.{RunAnswer}
 use Rattle.core.specs.declared.RunAnswer.the-variants.{Ran}
 use Rattle.core.specs.declared.ViewAnswer.{ViewAnswer}
@@ -186,8 +187,8 @@ OthersTaken =
     × (reset core memory .memory ≡ memory)
 
 -- 'this paper's number and values for each of its cases': different answers of a load, of a run or a step, and of a view are read
--- differently; and no refusal has a fault's number, so that a number says what it means by itself. What a refused view shows is no part of
--- its answer: the contract of view says it (proved as `read-apart`)
+-- differently; and no refusal has a fault's number, so that with `NumbersApart` and `FaultsApart` each has one meaning. What a refused view
+-- shows is no part of its answer: the contract of view says what it is (proved as `read-apart`)
 abbrev pub ReadApart : Type 0
 ReadApart =
     ((x y : LoadAnswer) → loadAnswerOf x ≡ loadAnswerOf y → x ≡ y)
@@ -199,15 +200,19 @@ ReadApart =
 abbrev pub Hands : Core → List ℕ → Reply → Type 0
 Hands core memory reply = (reply .core ≡ core) × (reply .memory ≡ memory)
 
--- what a call gave is read as handing back the very core that it gave, and the memory there is; a run is read as its own cycles, instructions
--- and letter; and what a view shows is the core's, part by part, and is read as that (proved as `read-exactly`)
+-- what a call gave is read as handing back the very core that it gave, and the memory there is; a load is read as its own count, or number and
+-- offset, a run as its own cycles, instructions and letter; and what a view shows is the core's, part by part, and is read as that (proved
+-- as `read-exactly`)
 abbrev pub ReadExactly : Type 0
 ReadExactly =
-    (core : Core) (memory : List ℕ) (l : LoadReply) (r : RunReply) (v : ViewReply) (cycles : Cycles) (instructions : Instructions) (end : End)
+    (core : Core) (memory : List ℕ) (l : LoadReply) (r : RunReply) (v : ViewReply) (n : ℕ) (fault : Fault)
+    → (cycles : Cycles) (instructions : Instructions) (end : End)
     → Hands core memory (resetGave core memory)
     × Hands (l .core) memory (loadGave l memory)
     × Hands (r .core) memory (runGave r memory)
     × Hands (v .core) memory (viewGave v memory)
+    × (loadAnswerOf (Stored n) ≡ stored n)
+    × (loadAnswerOf (Faulty fault n) ≡ refusedAt (listing.faultNumber fault) n)
     × (runAnswerOf (Ran cycles instructions end) ≡ ran (cycles .0) (instructions .0) end)
     × (shown core .regs ≡ core .regs)
     × (shown core .pc ≡ core .pc)

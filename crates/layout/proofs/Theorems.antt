@@ -4,7 +4,7 @@ use mathlib.Core.Bool.{Bool, true, false, cond}
 use mathlib.Core.List.{List, [], _∷_}
 use Prim.Native.Nat.{ℕ, zero, suc, _+_}
 use native.Mathlib.Omega.{arith}
-use borrow.Author.Tests.{eq-eqb}
+use borrow.Author.Tests.{eq-eqb, ne-eqb}
 use lib.Dec.{eqb}
 use lib.ListN.{length, getD, take, drop, replicate, drop-of-length-le}
 use lib.Seq.{drop-cons}
@@ -15,11 +15,11 @@ use Rattle.core.specs.Calls.{Answer, done, stored, ran, viewed, refused, refuse
 use Rattle.text.proofs.Apart.{endFrom, end-back}
 use Rattle.layout.specs.Layout.{flagsOf, stopNumber, bankNumbers, seenNumbers, answerNumbers, leftNumbers}
 use Rattle.layout.specs.Theorems.{AnswerSize, Whole, AnswersApart, LeftApart, Places}
-use Rattle.layout.proofs.Sizes.{numbers-size}
+use Rattle.layout.proofs.Sizes.{numbers-size, left-size}
 use Rattle.layout.proofs.Back.{flags-back}
 
 pub answer-size : AnswerSize
-answer-size = numbers-size
+answer-size = (numbers-size, left-size)
 
 -- the stop state of a number
 abbrev stopOf : ℕ → Stop
@@ -112,5 +112,13 @@ left-apart v w s t clock other hv hw e =
 pub places : Places
 unfolding answerNumbers leftNumbers
 places a b end v cycle clock h =
-    let bank = bank-back (v .regs) h in
-    (refl, refl, refl, (refl, bank, refl, refl, refl, refl, refl, refl), refl, refl, (refl, bank, refl, refl, refl, refl, refl, refl))
+    let bank = bank-back (v .regs) h in (
+      refl,
+      refl,
+      refl,
+      (refl, bank, refl, refl, refl, refl, refl, refl),
+      refl,
+      refl,
+      (refl, bank, refl, refl, refl, refl, refl, refl),
+      λ spent some. rw (ne-eqb spent 0 some) refl,
+    )

@@ -57,7 +57,7 @@ bankNumbers regs =
     ∷ register regs 15
     ∷ []
 
--- what is seen of a core, with its case, a number of a cycle and the clock
+-- what is seen of a core, with the case, the cycle due or the cycles spent, and the clock
 abbrev pub seenNumbers : ℕ → Visible → ℕ → ℕ → List ℕ
 seenNumbers kind v cycle clock =
     padded
@@ -74,11 +74,12 @@ answerNumbers (viewed v due clock) = seenNumbers 3 v due clock
 answerNumbers (refused number) = padded (4 ∷ number ∷ [])
 answerNumbers (refusedAt number offset) = padded (5 ∷ number ∷ offset ∷ [])
 
--- what a list of calls left: 'the clock, the stop state and the cycles spent in an unfinished instruction, and between instructions R0
--- to R15, PC, SP and flags', which are zero where an instruction is unfinished; laid out as a view is, with the cycles spent for the cycle due
+-- R0 to R15, PC, SP and flags between instructions; zero in an unfinished one
 abbrev pub between : ℕ → Visible → Visible
 between spent v = cond (eqb spent 0) v (visible (replicate 16 0) 0 0 (flagsOf 0) (v .stop))
 
+-- what a list of calls left: the clock, the stop state and the cycles spent in an unfinished instruction, and between instructions R0 to R15, PC,
+-- SP and flags; laid out as a view is, with the cycles spent in place of the cycle due
 unfoldable pub leftNumbers : Visible → ℕ → ℕ → List ℕ
 leftNumbers v spent clock = seenNumbers 6 (between spent v) spent clock
 

@@ -161,7 +161,7 @@ fn widened(regs: [u16; 16]) -> [u64; 16]
     out
 }
 
-// What is seen of a core, with the case; `due` is the number of a cycle.
+// What is seen of a core, with the case; `due` is the cycle due, or the cycles spent.
 fn seen_numbers(kind: u64, s: Snapshot) -> [u64; 23]
     ensures { λ r. ⌜ r ≡ seenNumbers kind (visible (s .regs) (s .pc) (s .sp) (s .flags) (s .stop)) (s .due) (s .clock .0) ⌝ }
 {

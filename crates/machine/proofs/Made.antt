@@ -5,12 +5,12 @@ use Rattle.core.specs.Calls.{Answer}
 use Rattle.plays.specs.Plays.{play}
 use Rattle.plays.proofs.Plays.{each-then, plays-same}
 use Rattle.machine.specs.Machine.{freshMachine}
-use Rattle.machine.specs.Theorem.{Call, reset, load, run, step, view, State, freshState, handed, onCore, onMachine, Agree, Given, Made, readAs, asMade, Kept, EveryListMade, ContractsKept, NothingAsked}
+use Rattle.machine.specs.Theorem.{Call, reset, load, run, step, view, State, freshState, handed, onCore, onMachine, Agree, Given, Made, handedBack, asMade, Kept, EveryListMade, ContractsKept, NothingAsked}
 use Rattle.machine.proofs.Theorem.{every-list}
 
 -- where the equation holds, the call does what its definition says
 as-defined : (call : Call) (given : Given call) (s : State) → Kept call given (s .core) (s .memory)
-    → readAs call given (s .memory) ≡ onCore call s
+    → handedBack call given (s .memory) ≡ onCore call s
 as-defined reset given s e = ap handed e
 as-defined (load text) given s e = ap handed e
 as-defined (run b) given s e = ap handed e

@@ -100,7 +100,7 @@ every-list memory calls =
     let both = played memory calls in
     record {
       answers = both .0;
-      left = alike (both .1);
+      states = alike (both .1);
       finished =
           ap (λ (answers : List Answer). counted countedWith answers 0) (both .0)
           ∙ plays-counted Call Machine Answer onMachine countedWith (λ m. length (m .log)) (λ call m. counts call m .same) calls

@@ -24,7 +24,7 @@ cyclesOf [] = 0
 cyclesOf (x ∷ rest) = wordTakes (x .word) (x .flags) + cyclesOf rest
 
 -- 'R0 to R15, PC, SP, flags, .. stop state' (`visible`), 'memory, .. clock T, and s, cycles spent (0 to 3)'; and a log of the instructions
--- finished since the last reset, or the start, the last one first, by which the clock is told as a sum
+-- finished since the last reset, or the start, the last one first, so that the clock can be stated as a sum
 pub record Machine : Type 0 where
   pub visible : Visible
   pub memory : List ℕ
@@ -36,7 +36,7 @@ pub record Machine : Type 0 where
 abbrev pub freshMachine : List ℕ → Machine
 freshMachine memory = record { visible = freshVisible; memory = memory; clock = 0; spent = 0; log = [] }
 
--- a call answers, and leaves the machine; with a number other than 0 it is refused and changes nothing
+-- what a call answers, and the machine after it; with a number other than 0 it is refused and changes nothing
 abbrev pub unless : ℕ → Machine → Answer × Machine → Answer × Machine
 unless number m reply = cond (eqb number 0) reply (refused number, m)
 
@@ -48,11 +48,11 @@ noneSpent m = eqb (m .spent) 0
 unfoldable pub reset : Machine → Answer × Machine
 reset m = (done, freshMachine (m .memory))
 
--- 'Load and view: as above.'
 abbrev pub withMemory : List ℕ → Machine → Machine
 withMemory memory m =
     record { visible = m .visible; memory = memory; clock = m .clock; spent = m .spent; log = m .log }
 
+-- 'Load and view: as above.'
 abbrev pub loaded : List ℕ → Machine → Answer × Machine
 loaded text m = (loadAnswer (listingAnswer text (length (m .memory))), withMemory (listingMemory text (m .memory)) m)
 
@@ -89,7 +89,7 @@ afterOne x =
       log = logged (x .memory) (x .visible) ∷ x .log;
     }
 
--- an instruction takes a cycle at least, so that t times are enough
+-- `fuel` bounds the turns: an instruction takes a cycle at least, so that t of them are enough
 unfoldable pub looped : ℕ → Loop → Loop
 looped zero x = x
 looped (suc fuel) x = cond (goesOn x) (looped fuel (afterOne x)) x
@@ -127,7 +127,7 @@ ranReply b clock x = (
   },
 )
 
--- 'Run: ..'
+-- 'Run: ..'. s is 0 to 3, so that the cycle due is one of 1 to 4, as a run wants it (`true`), and 7 never applies
 unfoldable pub run : ℕ → Machine → Answer × Machine
 run b m =
     unless (runNumber (length (m .memory)) (m .visible .stop) true (m .clock) b) m (ranReply b (m .clock) (loopOf b m))

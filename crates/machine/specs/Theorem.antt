@@ -1,5 +1,5 @@
--- Demand 3: on every list of calls a core and the instruction machine agree (`EveryList`); in the midst of a run too, by its definition
--- cycle by cycle (`EveryMoment`); and so do calls of the code, made one after the other (`EveryListMade`, by the contracts of the functions:
+-- Demand 3: on every list of calls a core and the instruction machine agree (`EveryList`), and after each cycle of a run, as the definition of
+-- run has them (`EveryMoment`); and so do calls of the code, made one after the other (`EveryListMade`, by the contracts of the functions:
 -- `ContractsKept`, `NothingAsked`). Five statements, proved in proofs/Theorem.antt and proofs/Made.antt.
 use mathlib.Core.Path.{_≡_}
 use mathlib.Core.Bool.{true}
@@ -36,7 +36,7 @@ pub data Call : Type 0 where
   step : Call
   view : Call
 
--- on a core and a lent memory, by the definitions that the contracts of the calls cite
+-- what a call answers and leaves on a core and a lent memory, by the definitions that the contracts of the calls cite
 abbrev pub replyTo : Call → Core → List ℕ → Reply
 replyTo reset c M = core.reset c M
 replyTo (load text) c M = core.load text c M
@@ -69,7 +69,7 @@ onMachine (run b) m = machine.run b m
 onMachine step m = machine.step m
 onMachine view m = machine.view m
 
--- how a core and its memory are those of a machine
+-- when a core and its memory are those of a machine
 pub record Alike (s : State) (m : Machine) : Type 0 where
   -- the memory, the clock T, the stop state
   pub memory : s .memory ≡ m .memory
@@ -84,7 +84,7 @@ pub record Alike (s : State) (m : Machine) : Type 0 where
   -- 'the clock is the sum of the finished instructions' cycles since the last reset plus those of the unfinished one'
   pub total : s .core .clock .0 ≡ cyclesOf (m .log) + m .spent
 
--- instructions answered as finished since the last reset, which alone answers `done`, or the start
+-- n instructions were answered as finished so far: how many with one answer more. A reset, which alone answers `done`, starts again at 0
 abbrev pub countedWith : Answer → ℕ → ℕ
 countedWith done n = 0
 countedWith (stored count) n = n
@@ -93,29 +93,30 @@ countedWith (viewed v due clock) n = n
 countedWith (refused number) n = n
 countedWith (refusedAt number offset) n = n
 
--- what lists of calls come to: every answer is the same, the states are alike, and the log has as many as were answered as finished
+-- what lists of calls come to: every answer is the same, the states are alike, and the log has as many instructions as were answered as
+-- finished since the last reset, or the start
 pub record Agree (c : List Answer × State) (m : List Answer × Machine) : Type 0 where
   pub answers : c .0 ≡ m .0
-  pub left : Alike (c .1) (m .1)
+  pub states : Alike (c .1) (m .1)
   pub finished : counted countedWith (c .0) 0 ≡ length (m .1 .log)
 
 -- for every memory, of any length (those of 1 to 65,536 words among them) and whatever is in it, and every list of calls, from a
--- fresh core and a fresh machine (proved as `every-list`)
+-- fresh core and a fresh machine (proved as `every-list`). So also after each call of a list: its beginning is a list
 abbrev pub EveryList : Type 0
 EveryList =
     (memory : List ℕ) (calls : List Call)
     → Agree (play onCore calls (freshState memory)) (play onMachine calls (freshMachine memory))
 
--- 'Memory is compared at every moment, registers and flags when s is 0': where calls leave a core on which a run of b is taken, it is, after
--- each i up to b of the run's cycles, alike to what a machine run of i leaves (proved as `every-moment`)
+-- 'Memory is compared at every moment, registers and flags when s is 0': after any calls, where a run of b is taken, and for each i up to
+-- b: core and memory after i of its cycles, fewer if the core stops, are those of the machine after a run of i (proved as `every-moment`)
 abbrev pub EveryMoment : Type 0
 EveryMoment =
-    (memory : List ℕ) (calls : List Call) (b i cycles instructions : ℕ) (end : End)
+    (memory : List ℕ) (calls : List Call) (b i used finished : ℕ) (end : End)
     → let s : State = play onCore calls (freshState memory) .1 in
     let m : Machine = play onMachine calls (freshMachine memory) .1 in
     let moment : Progress = cyclesOn i (starting (s .core) (s .memory)) in
-    onCore (run b) s .0 ≡ ran cycles instructions end → i ≤ b
-    → Alike (state (moment .core) (moment .memory)) (machine.run i m .1)
+    onCore (run b) s .0 ≡ ran used finished end → i ≤ b
+    → Alike (state (moment .core) (moment .memory)) (onMachine (run i) m .1)
 
 -- The code: what a call gives back and, if it is lent the memory, the memory as it then is
 abbrev pub Given : Call → Type 0
@@ -125,22 +126,23 @@ Given (run b) = RunReply × List ℕ
 Given step = RunReply × List ℕ
 Given view = ViewReply
 
+-- a call that was made, and what it gave back
 pub record Made : Type 0 where
   pub call : Call
   pub given : Given call
 
 -- its answer, read, and the core and the memory that it left; M is the memory there was, which reset and view are not lent
-abbrev pub readAs : (call : Call) → Given call → List ℕ → Answer × State
-readAs reset c M = (done, state c M)
-readAs (load text) r M = (loadAnswerOf (r .0 .answer), state (r .0 .core) (r .1))
-readAs (run b) r M = (runAnswerOf (r .0 .answer), state (r .0 .core) (r .1))
-readAs step r M = (runAnswerOf (r .0 .answer), state (r .0 .core) (r .1))
-readAs view r M = (viewAnswerOf (r .answer) (r .snapshot), state (r .core) M)
+abbrev pub handedBack : (call : Call) → Given call → List ℕ → Answer × State
+handedBack reset c M = (done, state c M)
+handedBack (load text) r M = (loadAnswerOf (r .0 .answer), state (r .0 .core) (r .1))
+handedBack (run b) r M = (runAnswerOf (r .0 .answer), state (r .0 .core) (r .1))
+handedBack step r M = (runAnswerOf (r .0 .answer), state (r .0 .core) (r .1))
+handedBack view r M = (viewAnswerOf (r .answer) (r .snapshot), state (r .core) M)
 
 abbrev pub asMade : Made → State → Answer × State
-asMade m s = readAs (m .call) (m .given) (s .memory)
+asMade m s = handedBack (m .call) (m .given) (s .memory)
 
--- the equation of its contract, on the core c and the memory M that it was made on
+-- the equation of its contract (of reset and view, at the memory there is), on the core c and the memory M that it was made on
 abbrev pub Kept : (call : Call) → Given call → Core → List ℕ → Type 0
 Kept reset r c M = resetGave r M ≡ core.reset c M
 Kept (load text) r c M = loadGave (r .0) (r .1) ≡ core.load text c M

@@ -30,14 +30,15 @@ PlaysAgree =
     → (calls : List C) (s : S) (t : T) → Related s t
     → (play f calls s .0 ≡ play g calls t .0) × Related (play f calls s .1) (play g calls t .1)
 
--- calls each of which, on the state that it is played on, does what another player's call does: the two lists do the same (proved as
+-- where each call does, on the state that it is played on, what `other call` does with the player g, the two lists do the same (proved as
 -- `plays-same`)
 abbrev pub PlaysSame : Type 1
 PlaysSame =
     (C D S A : Type 0) (f : C → S → A × S) (g : D → S → A × S) (other : C → D) (calls : List C) (s : S)
     → Each f (λ call s. f call s ≡ g (other call) s) calls s → play f calls s ≡ play g (map other calls) s
 
--- what each answer counts, the state has: so has it of every list (proved as `plays-counted`)
+-- where each answer, counted on from the state's size, gives the size of the next state, the answers of every list do (proved as
+-- `plays-counted`)
 abbrev pub PlaysCounted : Type 1
 PlaysCounted =
     (C S A : Type 0) (f : C → S → A × S) (count : A → ℕ → ℕ) (size : S → ℕ)

@@ -4,11 +4,12 @@ use mathlib.Core.List.{List, [], _∷_, _++_}
 use Prim.Native.Nat.{ℕ, _+_, _-_, _*_, _<_, _≤_}
 use native.Mathlib.Omega.{arith}
 use lib.ListN.{length, take, drop, length-append}
-use Rattle.core.specs.Cores.{freshCore}
+use Rattle.core.specs.Cores.{visibleOf, freshCore}
+use Rattle.core.specs.Spent.{spentOf}
 use Rattle.core.specs.Calls.{Answer}
 use Rattle.core.specs.declared.Core.{Core}
-use Rattle.layout.specs.Layout.{answerNumbers, leftNumbers, ontoIfRoom, NumberedReply, numbered}
-use Rattle.layout.proofs.Sizes.{numbers-size}
+use Rattle.layout.specs.Layout.{answerNumbers, ontoIfRoom, NumberedReply, numbered}
+use Rattle.layout.proofs.Sizes.{numbers-size, left-size}
 use Rattle.layout.proofs.Onto.{in-two-parts}
 use Rattle.plays.specs.Plays.{play}
 use Rattle.machine.specs.Theorem.{Call, State, state, replyTo, onCore}
@@ -38,13 +39,9 @@ split-first call (noCall i) calls e = absurd (no-call-listed calls i e)
 split-first call (noStretch i) calls e = absurd (no-stretch-listed calls i e)
 
 -- how many numbers are written of a play
-pub left-size : (core : Core) → length (coreLeft core) ≡ 23
-unfolding leftNumbers
-left-size core = refl
-
 pub numbers-length : (calls : List Call) (s : State) → length (coreNumbers (play onCore calls s)) ≡ 23 * (length calls + 1)
 unfolding play numbersThen
-numbers-length [] s = left-size (s .core)
+numbers-length [] s = left-size (visibleOf (s .core)) (spentOf (s .core)) (s .core .clock .0)
 numbers-length (call ∷ rest) s =
     let next = onCore call s in
     let more = coreNumbers (play onCore rest (next .1)) in

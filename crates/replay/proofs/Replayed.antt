@@ -38,16 +38,16 @@ playable-when (noStretch i) room n e = let z : _≡_ {A = ℕ} 0 1 = cc in absur
 left-same : (c : List Answer × State) (m : List Answer × Machine) → Agree c m → coreLeft (c .1 .core) ≡ machineLeft (m .1)
 unfolding leftNumbers
 left-same c m g =
-    let spent = g .left .spent in
-    let total = g .left .total in
+    let spent = g .states .spent in
+    let total = g .states .total in
     (λ j. leftNumbers (visibleOf (c .1 .core)) (spent j) (total j)) ∙ by (eqb (m .1 .spent) 0) refl
   where
     by : (none : Bool) → eqb (m .1 .spent) 0 ≡ none
         → leftNumbers (visibleOf (c .1 .core)) (m .1 .spent) (cyclesOf (m .1 .log) + m .1 .spent) ≡ machineLeft (m .1)
     by true h =
-        ap (λ (v : Visible). leftNumbers v (m .1 .spent) (cyclesOf (m .1 .log) + m .1 .spent)) (g .left .visible (eqb-true (m .1 .spent) 0 h))
+        ap (λ (v : Visible). leftNumbers v (m .1 .spent) (cyclesOf (m .1 .log) + m .1 .spent)) (g .states .visible (eqb-true (m .1 .spent) 0 h))
     by false h =
-        let stop = g .left .stop in
+        let stop = g .states .stop in
         rw h (λ j. seenNumbers 6 (visible (replicate 16 0) 0 0 (flagsOf 0) (stop j)) (m .1 .spent) (cyclesOf (m .1 .log) + m .1 .spent))
 
 -- what is played on the machine is what is played on the core
@@ -56,7 +56,7 @@ pub by-the-core : (calls : List Call) (memory answers : List ℕ)
     machineReplay calls memory answers ≡ replayGave (Played (length calls)) (played .1 .memory) (onto (coreNumbers played) answers)
 by-the-core calls memory answers =
     let agree = every-list memory calls in
-    let after = sym (agree .left .memory) in
+    let after = sym (agree .states .memory) in
     let said = sym (agree .answers) in
     let left = sym (left-same _ _ agree) in
     λ j. replayGave (Played (length calls)) (after j) (onto (numbersThen (said j) (left j)) answers)

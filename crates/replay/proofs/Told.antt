@@ -5,14 +5,17 @@ use Prim.Native.Nat.{ℕ, _*_}
 use native.Mathlib.Omega.{arith}
 use lib.ListN.{length, take, drop, length-append}
 use lib.Seq.{take-at, drop-at}
+use Rattle.core.specs.Cores.{visibleOf}
+use Rattle.core.specs.Spent.{spentOf}
 use Rattle.core.specs.Calls.{Answer}
 use Rattle.layout.specs.Layout.{answerNumbers}
+use Rattle.layout.proofs.Sizes.{left-size}
 use Rattle.plays.specs.Plays.{play}
 use Rattle.machine.specs.Theorem.{freshState, onCore}
 use Rattle.replay.specs.Replay.{numbersThen, placesFor, Replayed}
 use Rattle.replay.specs.ReplayParts.{coreLeft, coreNumbers}
 use Rattle.replay.specs.Theorems.{CoreTold}
-use Rattle.replay.proofs.Plays.{left-size, numbers-length}
+use Rattle.replay.proofs.Plays.{numbers-length}
 use Rattle.replay.proofs.Replayed.{is-played, by-the-core}
 
 -- the numbers of answers, then more
@@ -28,17 +31,19 @@ core-told calls memory answers h =
     let told = is-played calls memory answers h ∙ by-the-core calls memory answers in
     let played = play onCore calls (freshState memory) in
     let said = numbersThen (played .0) [] in
-    let left = coreLeft (played .1 .core) in
+    let core = played .1 .core in
+    let left = coreLeft core in
+    let last = left-size (visibleOf core) (spentOf core) (core .clock .0) in
     let rest = drop (length (coreNumbers played)) answers in
     let whole : length (coreNumbers played) ≡ placesFor calls = numbers-length calls (freshState memory) in
     let parts : coreNumbers played ≡ said ++ left = numbers-then (played .0) left in
     let size : length said ≡ 23 * length calls =
-    omega (arith, whole, ap length parts, length-append said left, left-size (played .1 .core)) in
+    omega (arith, whole, ap length parts, length-append said left, last) in
     let written = ap (λ (x : Replayed). x .answers) told ∙ ap (λ (l : List ℕ). l ++ rest) parts ∙ append-assoc said left rest in
     let behind = ap (drop (23 * length calls)) written ∙ drop-at said (left ++ rest) (23 * length calls) size in (
       ap (λ (x : Replayed). x .answer) told,
       ap (λ (x : Replayed). x .memory) told,
       ap (take (23 * length calls)) written ∙ take-at said (left ++ rest) (23 * length calls) size,
-      ap (take 23) behind ∙ take-at left rest 23 (left-size (played .1 .core)),
-      ap (drop 23) behind ∙ drop-at left rest 23 (left-size (played .1 .core)) ∙ ap (λ (n : ℕ). drop n answers) whole,
+      ap (take 23) behind ∙ take-at left rest 23 (last),
+      ap (drop 23) behind ∙ drop-at left rest 23 (last) ∙ ap (λ (n : ℕ). drop n answers) whole,
     )

@@ -33,7 +33,7 @@ readCall kind first second size =
     (cond (eqb kind 2) (readBudget first)
     (cond (eqb kind 3) (readAs.Read listedCall.Step) (cond (eqb kind 4) (readAs.Read listedCall.View) readAs.NoCall))))
 
--- it, as a call of the theorem
+-- a call that was read, as one of `EveryList`
 abbrev pub callOf : List ℕ → ListedCall → Call
 callOf text listedCall.Reset = reset
 callOf text (listedCall.Load from to) = load (take (to - from) (drop from text))
@@ -81,18 +81,18 @@ pub record Replayed : Type 0 where
 abbrev pub replayGave : ReplayAnswer → List ℕ → List ℕ → Replayed
 replayGave answer memory answers = record { answer = answer; memory = memory; answers = answers }
 
--- the calls played on the instruction machine, which starts fresh on the memory: the memory is the machine's, and its answers are written
--- from the first place on, and then what the list left
+-- the calls played on the instruction machine, which starts fresh on the memory
 abbrev pub machinePlay : List Call → List ℕ → List Answer × Machine
 machinePlay calls memory = play onMachine calls (freshMachine memory)
 
--- 'the clock is the sum of the finished instructions' cycles since the last reset plus those of the unfinished one': it is told so, and is T
+-- the clock is written as the sum of the finished instructions' cycles since the last reset plus those of the unfinished one; by `EveryList` it is T
 abbrev pub machineLeft : Machine → List ℕ
 machineLeft m = leftNumbers (m .visible) (m .spent) (cyclesOf (m .log) + m .spent)
 
 abbrev pub machineNumbers : List Answer × Machine → List ℕ
 machineNumbers p = numbersThen (p .0) (machineLeft (p .1))
 
+-- the memory is the machine's; its answers are written from the first place on, then what the list left; places past that stay
 abbrev pub machineReplay : List Call → List ℕ → List ℕ → Replayed
 machineReplay calls memory answers =
     replayGave (Played (length calls)) (machinePlay calls memory .1 .memory)

@@ -13,8 +13,8 @@ use Rattle.machine.specs.Theorem.{Call, State, freshState, onCore}
 use Rattle.replay.specs.Replay.{listed, numbersThen, placesFor, Replayed, replayed}
 use Rattle.replay.specs.declared.ReplayAnswer.the-variants.{Played}
 
--- a list that is played tells what its calls, made on a fresh core, answer and leave: the memory, the answers in their order, and then the
--- core that the last of them leaves; places behind that stay. What the promise of `replay` says by the machine is said here by the calls of
+-- calls that were read, with places enough, are played, and tell what they answer and leave on a fresh core: the memory, the answers in their
+-- order, and then the core after all of them; places behind that stay. What the promise of `replay` says by the machine is said here by the calls of
 -- the core: by `EveryList` it is the same (proved as `core-told`)
 abbrev pub CoreTold : Type 0
 CoreTold =

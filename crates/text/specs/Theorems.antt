@@ -4,10 +4,10 @@ use Rattle.isa.specs.declared.Flags.{Flags}
 use Rattle.core.specs.declared.End.{End}
 use Rattle.text.specs.Text.{flagsText, letterText}
 
--- 'the end: H halted, U undefined, B cycle 1 due, M otherwise': a letter says which end it is (proved as `letters-apart`)
+-- different ends have different letters; which they are is said by `letterText` (proved as `letters-apart`)
 abbrev pub LettersApart : Type 0
 LettersApart = (x y : End) → letterText x ≡ letterText y → x ≡ y
 
--- 'NZCV is written as four bits': they say all four flags (proved as `flags-apart`)
+-- different flags have different bits; their order is said by `flagsText` (proved as `flags-apart`)
 abbrev pub FlagsApart : Type 0
 FlagsApart = (x y : Flags) → flagsText x ≡ flagsText y → x ≡ y

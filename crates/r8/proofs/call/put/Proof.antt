@@ -18,7 +18,7 @@ returns c =
     let start = numbers .before .before .before .before .before in
     let answer = start .args .answer .now in
     let said = numbers .run-numbers .ensures in
-    let size : length (numbers .run-numbers .result) ≡ 23 = ap length said ∙ answer-size (runAnswerOf (start .args .reply .answer)) in (
+    let size : length (numbers .run-numbers .result) ≡ 23 = ap length said ∙ answer-size .0 (runAnswerOf (start .args .reply .answer)) in (
       c .before .before .before .before .before .before .before .before .before .before .put-registers .ensures,
       c .before .before .before .before .before .before .put-state .ensures,
       c .before .before .put .ensures ∙ fitting (numbers .run-numbers .result) answer (omega (arith, size, start .pre .2)) ∙ ap (λ (x : List ℕ). onto x answer) said,
