@@ -1,0 +1,5 @@
+-- The pages hold of the calls.
+pub mod Fields
+pub mod Overflow
+pub mod Instructions
+pub mod Cycles
