@@ -14,6 +14,10 @@ use Rattle.forms.specs.Answers.{Answer, given, refused}
 use Rattle.forms.specs.Operands.{outside, fault, placed}
 use Rattle.forms.specs.Writing.{writtenAt}
 
+-- no answer is both a refusal and given
+pub never : {A : Type 0} {n : ℕ} {x : A} → refused n ≡ given x → ⊥
+never e = let z : _≡_ {A = ℕ} 0 1 = cc e in omega arith
+
 pub both-false : (a b : Bool) → (a || b) ≡ false → (a ≡ false) × (b ≡ false)
 both-false true b e = absurd (true≢false e)
 both-false false b e = (refl, e)
@@ -60,13 +64,13 @@ unfolding writtenAt
 wrote n o w e = by (fault o) refl
   where
     by : (b : Bool) → fault o ≡ b → Sound o × (sum (wordOf n) (placed o) ≡ w)
-    by true f = let e′ : _≡_ {A = Answer ℕ} (refused 5) (given w) = rw f at e in absurd (let z : _≡_ {A = ℕ} 0 1 = cc e′ in omega arith)
+    by true f = let e′ : refused 5 ≡ given w = rw f at e in absurd (never e′)
     by false f = let e′ : given (sum (wordOf n) (placed o)) ≡ given w = rw f at e in (sound o f, cc e′)
 
 pub refuses : (n : ℕ) (x : Operands) (m : ℕ) (b : Bool) → fault x ≡ b → (writtenAt n x ≡ refused m) ↔ ((b ≡ true) × (m ≡ 5))
 unfolding writtenAt
 refuses n x m true f = (λ e. (refl, let e′ : _≡_ {A = Answer ℕ} (refused 5) (refused m) = rw f at e in cc e′), λ p. rw (f, p .1))
 refuses n x m false f = (
-  λ e. absurd (let e′ : given (sum (wordOf n) (placed x)) ≡ refused m = rw f at e in let z : _≡_ {A = ℕ} 0 1 = cc e′ in omega arith),
+  λ e. absurd (let e′ : given (sum (wordOf n) (placed x)) ≡ refused m = rw f at e in never (sym e′)),
   λ p. absurd (true≢false (sym (p .0))),
 )

@@ -3,3 +3,5 @@ mod Signed
 mod Displacement
 mod Faults
 pub mod Theorems
+pub mod Means
+pub mod Apart

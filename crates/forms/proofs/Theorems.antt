@@ -25,7 +25,7 @@ use Rattle.forms.specs.Operands.{signed, unsigned, operandsOf, fault, pl
 use Rattle.forms.specs.Reading.{formWith, wordToForm}
 use Rattle.forms.specs.Writing.{writtenAt, formToWord}
 use Rattle.forms.specs.Theorems.{unusedBy, unused, FormWordForm, WordFormWord, Unchanged, RefusedWord, outOfRange, RefusedForm}
-use Rattle.forms.proofs.Faults.{Sound, writes, wrote, refuses}
+use Rattle.forms.proofs.Faults.{never, Sound, writes, wrote, refuses}
 use Rattle.forms.proofs.Displacement.{bits10, bits12}
 
 -- an instruction with operands, as a word
@@ -205,9 +205,6 @@ module _ (w : ℕ) (h : w < 65536) (f : Form) (e : wordToForm w ≡ given f) (k 
       again (0, 0, 0, 0, pos 0, signed (d12 w)) x
       (record { t = omega arith; a = omega arith; b = omega arith; k = omega arith; short = refl; long = bits12 .stays (w % 4096) (omega arith) })
       (omega (arith, low12 w, on .4 i))
-
-never : {n : ℕ} {f : Form} → refused n ≡ given f → ⊥
-never e = let z : _≡_ {A = ℕ} 0 1 = cc e in omega arith
 
 read-again : (w : ℕ) → w < 65536 → (f : Form) → wordToForm w ≡ given f → (formToWord f ≡ given (w - unused w)) × (unused w ≤ w)
 unfolding wordToForm formToWord operandsOf Again

@@ -1,19 +1,52 @@
--- Words and forms together, over all fields at one go: five statements, proved in proofs/Theorems.antt.
+-- Words and forms, over all fields at one go, and that different answers are read differently: seven statements, proved in
+-- proofs/Theorems.antt, proofs/Means.antt and proofs/Apart.antt.
 use mathlib.Core.Path.{_≡_}
 use mathlib.Core.Logic.{_↔_}
-use mathlib.Core.Bool.{Bool, true, false, _||_}
-use Prim.Native.Nat.{ℕ, _+_, _-_, _*_, _<_}
-use Rattle.isa.specs.Fields.{fieldT, fieldA, bits11to10}
+use mathlib.Core.Bool.{Bool, true, false, cond, _||_}
+use Prim.Native.Nat.{ℕ, _+_, _-_, _*_, _%_, _<_}
+use lib.Dec.{ltb}
+use lib.IntN.{ℤ, pos, subℕ}
+use Rattle.isa.specs.Fields.{fieldT, fieldA, fieldB, fieldK, bits11to10}
 use Rattle.table.specs.Table.{kindOf}
 use Rattle.isa.specs.declared.Kind.{Kind}
 use Rattle.isa.specs.declared.Kind.the-variants.{Undefined, Binary, Constant, Ld, St, Unary, Nop, Halt, Ldsp, Rts, Pop, Push, Jump, Call}
 use Rattle.isa.specs.declared.Condition.the-variants.{Always, Negative, Zero, Carry, Overflow}
 use Rattle.isa.specs.declared.Target.the-variants.{Relative, Absolute, Displaced}
 use Rattle.forms.specs.declared.Form.{Form}
-use Rattle.forms.specs.Answers.{given, refused}
+use Rattle.forms.specs.declared.FormAnswer.{FormAnswer}
+use Rattle.forms.specs.declared.WordAnswer.{WordAnswer}
+use Rattle.forms.specs.Answers.{given, refused, formAnswer, wordAnswer}
 use Rattle.forms.specs.Operands.{noRegister, noConstant, noShort, noLong}
 use Rattle.forms.specs.Reading.{wordToForm}
 use Rattle.forms.specs.Writing.{formToWord}
+
+-- 'sign extended': a number below 2 * half with its sign, from half on that number less 2 * half
+abbrev pub withSign : ℕ → ℕ → ℤ
+withSign half v = cond (ltb v half) (pos v) (subℕ v (2 * half))
+
+-- what a form says of a word: which instruction of the table it is, and its fields by their names; 'd10 and d12 are bits 9-0 and 11-0'
+abbrev pub Means : Form → ℕ → Type 0
+Means (Form.Binary op t a b) w = (kindOf w ≡ Binary op) × (t ≡ fieldT w) × (a ≡ fieldA w) × (b ≡ fieldB w)
+Means (Form.Constant op t k) w = (kindOf w ≡ Constant op) × (t ≡ fieldT w) × (k ≡ fieldK w)
+Means (Form.Ld t a b) w = (kindOf w ≡ Ld) × (t ≡ fieldT w) × (a ≡ fieldA w) × (b ≡ fieldB w)
+Means (Form.St t a b) w = (kindOf w ≡ St) × (t ≡ fieldT w) × (a ≡ fieldA w) × (b ≡ fieldB w)
+Means (Form.Unary op t a) w = (kindOf w ≡ Unary op) × (t ≡ fieldT w) × (a ≡ fieldA w)
+Means Form.Nop w = kindOf w ≡ Nop
+Means Form.Halt w = kindOf w ≡ Halt
+Means (Form.Ldsp a) w = (kindOf w ≡ Ldsp) × (a ≡ fieldA w)
+Means Form.Rts w = kindOf w ≡ Rts
+Means (Form.Pop t) w = (kindOf w ≡ Pop) × (t ≡ fieldT w)
+Means (Form.Push t) w = (kindOf w ≡ Push) × (t ≡ fieldT w)
+Means (Form.JumpRelative condition a) w = (kindOf w ≡ Jump condition Relative) × (a ≡ fieldA w)
+Means (Form.JumpAbsolute condition a) w = (kindOf w ≡ Jump condition Absolute) × (a ≡ fieldA w)
+Means (Form.CallRelative a) w = (kindOf w ≡ Call Relative) × (a ≡ fieldA w)
+Means (Form.CallAbsolute a) w = (kindOf w ≡ Call Absolute) × (a ≡ fieldA w)
+Means (Form.JumpDisplaced condition d10) w = (kindOf w ≡ Jump condition Displaced) × (d10 ≡ withSign 512 (w % 1024))
+Means (Form.CallDisplaced d12) w = (kindOf w ≡ Call Displaced) × (d12 ≡ withSign 2048 (w % 4096))
+
+-- a word has a form exactly where the form says so of it (proved as `form-means`)
+abbrev pub FormMeans : Type 0
+FormMeans = (w : ℕ) (f : Form) → (wordToForm w ≡ given f) ↔ Means f w
 
 -- the fields that the table does not use for an instruction, as they stand in a word: t, a, or bits 11-10 of D (of an undefined
 -- word nothing is asked)
@@ -84,3 +117,10 @@ outOfRange (Form.CallDisplaced d12) = noLong d12
 -- a form is refused exactly there, with 5 (proved as `refused-form`)
 abbrev pub RefusedForm : Type 0
 RefusedForm = (f : Form) (n : ℕ) → (formToWord f ≡ refused n) ↔ ((outOfRange f ≡ true) × (n ≡ 5))
+
+-- 'this paper's number and values for each of its cases': different answers are read differently, of word to form and of form to word
+-- (proved as `forms-apart`)
+abbrev pub FormsApart : Type 0
+FormsApart =
+    ((x y : FormAnswer) → formAnswer x ≡ formAnswer y → x ≡ y)
+    × ((x y : WordAnswer) → wordAnswer x ≡ wordAnswer y → x ≡ y)
