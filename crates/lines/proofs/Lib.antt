@@ -3,6 +3,7 @@ pub mod Places
 pub mod Eights
 pub mod Front
 pub mod Theorems
+pub mod CommentBytes
 pub mod Entries
 pub mod Grammar
 pub mod LineReader

@@ -17,7 +17,7 @@ use Rattle.lines.proofs.Places.{find-le, first-length}
 use Rattle.lines.proofs.Front.{front, first-in}
 
 -- the byte that was looked for stands where it was found
-found : (b : ℕ) (t : List ℕ) → find b t < length t → getD t (find b t) 0 ≡ b
+pub found : (b : ℕ) (t : List ℕ) → find b t < length t → getD t (find b t) 0 ≡ b
 unfolding find
 found b [] h = absurd (omega arith)
 found b (x ∷ t) h = by (eqb x b) refl (found b t) h where
@@ -27,7 +27,7 @@ found b (x ∷ t) h = by (eqb x b) refl (found b t) h where
   by false e ih l = ih (omega arith)
 
 -- and not before
-not-before : (b : ℕ) (t : List ℕ) (j : ℕ) → j < find b t → getD t j 0 ≡ b → ⊥
+pub not-before : (b : ℕ) (t : List ℕ) (j : ℕ) → j < find b t → getD t j 0 ≡ b → ⊥
 unfolding find
 not-before b [] j h e = omega arith
 not-before b (x ∷ t) j h e = by (eqb x b) refl j h e (not-before b t) where
@@ -107,7 +107,7 @@ whole (b ∷ []) = by (eqb b lineFeed) refl where
 whole (b ∷ c ∷ t) = one-more b (c ∷ t) (front (c ∷ t) (omega arith)) (whole (c ∷ t)) (eqb b lineFeed) refl
 
 -- a line at the front holds no LF, nor does one that is not there
-no-feed : (t : List ℕ) (j : ℕ) → getD (firstLine t) j 0 ≡ lineFeed → ⊥
+pub no-feed : (t : List ℕ) (j : ℕ) → getD (firstLine t) j 0 ≡ lineFeed → ⊥
 no-feed t j e =
     elim (decLt j (find lineFeed t)) [
       | yes l ↦ not-before lineFeed t j l (sym (getD-take (find lineFeed t) t j 0 l) ∙ e)

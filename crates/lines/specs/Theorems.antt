@@ -1,5 +1,5 @@
--- What holds of every listing's lines, of every line, number and comment: eight statements, proved in proofs/Theorems.antt,
--- proofs/Grammar.antt and proofs/ReadBack.antt.
+-- What holds of every listing's lines, of every line, number and comment: nine statements, proved in proofs/Theorems.antt,
+-- proofs/Grammar.antt, proofs/ReadBack.antt and proofs/CommentBytes.antt.
 use mathlib.Core.Path.{_≡_}
 use mathlib.Core.Logic.{_↔_, _⊎_}
 use mathlib.Core.List.{List, [], _∷_, _++_}
@@ -94,6 +94,27 @@ CommentExactly =
     × (((j : ℕ) → getD (lineFrom listing offset) j 0 ≡ semicolon → ⊥)
     → (commentText listing offset ≡ [])
     × (commentStart listing offset ≡ min offset (length listing) + length (lineFrom listing offset)))
+
+-- 'the first `;` from there to the line's end', at place i: a byte 59, and from the offset to it no other and no LF, byte 10
+abbrev pub OpensAt : List ℕ → ℕ → ℕ → Type 0
+OpensAt listing offset i =
+    (offset ≤ i) × (getD listing i 0 ≡ 59)
+    × ((k : ℕ) → offset ≤ k → k < i → (getD listing k 0 ≡ 59 → ⊥) × (getD listing k 0 ≡ 10 → ⊥))
+
+-- a text is 'that stretch of the caller's own listing' from a place on, 'up to the line's end without the LF'
+abbrev pub StretchFrom : List ℕ → ℕ → List ℕ → Type 0
+StretchFrom listing start text =
+    (start + length text ≤ length listing)
+    × ((j : ℕ) → j < length text → (getD text j 0 ≡ getD listing (start + j) 0) × (getD text j 0 ≡ 10 → ⊥))
+    × ((start + length text ≡ length listing) ⊎ (getD listing (start + length text) 0 ≡ 10))
+
+-- byte by byte: a comment is such a stretch, starts behind that `;`, and is empty where there is none (proved as `comment-bytes`)
+abbrev pub CommentBytes : Type 0
+CommentBytes =
+    (listing : List ℕ) (offset : ℕ)
+    → StretchFrom listing (commentStart listing offset) (commentText listing offset)
+    × ((i : ℕ) → OpensAt listing offset i → commentStart listing offset ≡ i + 1)
+    × (((i : ℕ) → OpensAt listing offset i → ⊥) → commentText listing offset ≡ [])
 
 -- a word in its four digits is read back (proved as `word-read-back`)
 abbrev pub WordReadBack : Type 0
