@@ -3,3 +3,4 @@ pub mod Fields
 pub mod Overflow
 pub mod Instructions
 pub mod Cycles
+pub mod Theorems

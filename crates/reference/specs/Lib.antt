@@ -2,3 +2,4 @@
 pub mod Notation
 pub mod Instructions
 pub mod Cycles
+pub mod Theorems
