@@ -12,7 +12,6 @@ use Rattle.isa.specs.Fields.{fieldT, fieldA, fieldB, bits11to10, fieldK, extend
 use Rattle.table.specs.Table.{placeOf, kindOf, entry, wordOf}
 use Rattle.isa.specs.declared.Kind.{Kind}
 use Rattle.isa.specs.declared.Kind.the-variants.{Undefined, Binary, Constant, Ld, St, Unary, Nop, Halt, Ldsp, Rts, Pop, Push, Jump, Call}
-use Rattle.isa.specs.declared.Condition.{Condition}
 use Rattle.isa.specs.declared.Condition.the-variants.{Always, Negative, Zero, Carry, Overflow}
 use Rattle.isa.specs.declared.Target.the-variants.{Relative, Absolute, Displaced}
 use Rattle.table.proofs.Lines.{Line, place-word-O, place-word-BC, place-word-DE, place-word-F, word-le, word-BC, word-DE}
@@ -21,9 +20,9 @@ use Rattle.table.proofs.Entries.{kind-by-place, binary-on-O, constant-on-O, una
 use Rattle.forms.specs.declared.Form.{Form}
 use Rattle.forms.specs.declared.Operands.{Operands}
 use Rattle.forms.specs.Answers.{Answer, given, refused}
-use Rattle.forms.specs.Operands.{signed, unsigned, operandsOf, fault, placed}
+use Rattle.forms.specs.Operands.{signed, unsigned, operandsOf, noShort, fault, placed}
 use Rattle.forms.specs.Reading.{formWith, wordToForm}
-use Rattle.forms.specs.Writing.{writtenAt, formToWord}
+use Rattle.forms.specs.Writing.{writtenAt, partsOf, formToWord}
 use Rattle.forms.specs.Theorems.{unusedBy, unused, FormWordForm, WordFormWord, Unchanged, RefusedWord, outOfRange, RefusedForm}
 use Rattle.forms.proofs.Faults.{never, Sound, writes, wrote, refuses}
 use Rattle.forms.proofs.Displacement.{bits10, bits12}
@@ -270,22 +269,27 @@ unfolding wordToForm
 refused-word w n =
     (only-undefined (kindOf w) (operandsOf w) n, λ p. ap (λ (y : Kind). formWith y (operandsOf w)) (p .0) ∙ ap refused (sym (p .1)))
 
+-- the operands that a form lacks are in range
+faults : (f : Form) → fault (partsOf f .1) ≡ outOfRange f
+unfolding fault
+faults (Form.Binary op t a b) = simp or-false
+faults (Form.Constant op t k) = simp or-false
+faults (Form.Ld t a b) = simp or-false
+faults (Form.St t a b) = simp or-false
+faults (Form.Unary op t a) = simp or-false
+faults Form.Nop = refl
+faults Form.Halt = refl
+faults (Form.Ldsp a) = simp or-false
+faults Form.Rts = refl
+faults (Form.Pop t) = simp or-false
+faults (Form.Push t) = simp or-false
+faults (Form.JumpRelative c a) = simp or-false
+faults (Form.JumpAbsolute c a) = simp or-false
+faults (Form.CallRelative a) = simp or-false
+faults (Form.CallAbsolute a) = simp or-false
+faults (Form.JumpDisplaced c d) = or-false (noShort d)
+faults (Form.CallDisplaced d) = refl
+
 pub refused-form : RefusedForm
-unfolding formToWord fault
-refused-form (Form.Binary op t a b) n = refuses (entry (Binary op)) (t, a, b, 0, pos 0, pos 0) n _ (simp or-false)
-refused-form (Form.Constant op t k) n = refuses (entry (Constant op)) (t, 0, 0, k, pos 0, pos 0) n _ (simp or-false)
-refused-form (Form.Ld t a b) n = refuses 9 (t, a, b, 0, pos 0, pos 0) n _ (simp or-false)
-refused-form (Form.St t a b) n = refuses 10 (t, a, b, 0, pos 0, pos 0) n _ (simp or-false)
-refused-form (Form.Unary op t a) n = refuses (entry (Unary op)) (t, a, 0, 0, pos 0, pos 0) n _ (simp or-false)
-refused-form Form.Nop n = refuses 16 (0, 0, 0, 0, pos 0, pos 0) n _ refl
-refused-form Form.Halt n = refuses 17 (0, 0, 0, 0, pos 0, pos 0) n _ refl
-refused-form (Form.Ldsp a) n = refuses 18 (0, a, 0, 0, pos 0, pos 0) n _ (simp or-false)
-refused-form Form.Rts n = refuses 19 (0, 0, 0, 0, pos 0, pos 0) n _ refl
-refused-form (Form.Pop t) n = refuses 20 (t, 0, 0, 0, pos 0, pos 0) n _ (simp or-false)
-refused-form (Form.Push t) n = refuses 21 (t, 0, 0, 0, pos 0, pos 0) n _ (simp or-false)
-refused-form (Form.JumpRelative c a) n = refuses (entry (Jump c Relative)) (0, a, 0, 0, pos 0, pos 0) n _ (simp or-false)
-refused-form (Form.JumpAbsolute c a) n = refuses (entry (Jump c Absolute)) (0, a, 0, 0, pos 0, pos 0) n _ (simp or-false)
-refused-form (Form.CallRelative a) n = refuses 32 (0, a, 0, 0, pos 0, pos 0) n _ (simp or-false)
-refused-form (Form.CallAbsolute a) n = refuses 33 (0, a, 0, 0, pos 0, pos 0) n _ (simp or-false)
-refused-form (Form.JumpDisplaced c d) n = refuses (entry (Jump c Displaced)) (0, 0, 0, 0, d, pos 0) n _ (simp or-false)
-refused-form (Form.CallDisplaced d) n = refuses 39 (0, 0, 0, 0, pos 0, d) n _ refl
+unfolding formToWord
+refused-form f n = refuses (partsOf f .0) (partsOf f .1) n (outOfRange f) (faults f)

@@ -4,10 +4,8 @@ ghost use Prim.Native.Nat.{_%_};
 ghost use Rattle.forms.specs.Answers.{formAnswer, wordAnswer};
 ghost use Rattle.forms.specs.Operands.{signed, unsigned, operandsOf, outside, fault, placed};
 ghost use Rattle.forms.specs.Reading.{formWith, wordToForm};
-ghost use Rattle.forms.specs.Writing.{writtenAt, partsOf, formToWord};
-ghost use Rattle.table.specs.Table.{binaryEntry, constantEntry, unaryEntry, jumpEntry};
+ghost use Rattle.forms.specs.Writing.{writtenAt, parts, partsOf, formToWord};
 ghost use Rattle.isa.specs.declared.Kind.the-variants.{Jump, Call};
-ghost use Rattle.isa.specs.declared.Target.the-variants.{Relative, Absolute, Displaced};
 use isa::BinaryOp;
 use isa::Condition;
 use isa::ConstantOp;
@@ -163,77 +161,6 @@ pub fn word_to_form(word: u16) -> FormAnswer
     form_with(table::kind_of(word), operands_of(word))
 }
 
-fn binary_entry(op: BinaryOp) -> u8
-    ensures { λ r. ⌜ r ≡ binaryEntry op ⌝ }
-{
-    match op {
-        BinaryOp::Add => 0,
-        BinaryOp::Sub => 1,
-        BinaryOp::And => 2,
-        BinaryOp::Or => 3,
-        BinaryOp::Xor => 4,
-    }
-}
-
-fn constant_entry(op: ConstantOp) -> u8
-    ensures { λ r. ⌜ r ≡ constantEntry op ⌝ }
-{
-    match op {
-        ConstantOp::Addi => 5,
-        ConstantOp::Subi => 6,
-        ConstantOp::Ldl => 7,
-        ConstantOp::Ldh => 8,
-    }
-}
-
-fn unary_entry(op: UnaryOp) -> u8
-    ensures { λ r. ⌜ r ≡ unaryEntry op ⌝ }
-{
-    match op {
-        UnaryOp::Sl0 => 11,
-        UnaryOp::Sl1 => 12,
-        UnaryOp::Sr0 => 13,
-        UnaryOp::Sr1 => 14,
-        UnaryOp::Not => 15,
-    }
-}
-
-fn relative_entry(condition: Condition) -> u8
-    ensures { λ r. ⌜ r ≡ jumpEntry condition Relative ⌝ }
-{
-    match condition {
-        Condition::Always => 22,
-        Condition::Negative => 23,
-        Condition::Zero => 24,
-        Condition::Carry => 25,
-        Condition::Overflow => 26,
-    }
-}
-
-fn absolute_entry(condition: Condition) -> u8
-    ensures { λ r. ⌜ r ≡ jumpEntry condition Absolute ⌝ }
-{
-    match condition {
-        Condition::Always => 27,
-        Condition::Negative => 28,
-        Condition::Zero => 29,
-        Condition::Carry => 30,
-        Condition::Overflow => 31,
-    }
-}
-
-fn displaced_entry(condition: Condition) -> u8
-    ensures { λ r. ⌜ r ≡ jumpEntry condition Displaced ⌝ }
-{
-    match condition {
-        Condition::Always => 34,
-        Condition::Negative => 35,
-        Condition::Zero => 36,
-        Condition::Carry => 37,
-        Condition::Overflow => 38,
-    }
-}
-
 fn is_outside(least: i16, most: i16, d: i16) -> bool
     ensures { λ r. ⌜ r ≡ outside least most d ⌝ }
 {
@@ -284,36 +211,46 @@ fn write(entry: u8, x: Operands) -> WordAnswer
     WordAnswer::Written(words::add(table::word_of(entry), placed_of(x)))
 }
 
+// An instruction with operands, by its place in the table.
+fn row(kind: Kind, x: Operands) -> Parts
+    ensures { λ r. ⌜ r ≡ parts kind x ⌝ }
+{
+    Parts(table::entry_of(kind), x)
+}
+
 pub fn parts_of(form: Form) -> Parts
     ensures { λ r. ⌜ r ≡ partsOf form ⌝ }
 {
     match form {
-        Form::Binary { op, t, a, b } => Parts(binary_entry(op), Operands(t, a, b, 0, 0, 0)),
-        Form::Constant { op, t, k } => Parts(constant_entry(op), Operands(t, 0, 0, k, 0, 0)),
-        Form::Ld { t, a, b } => Parts(9, Operands(t, a, b, 0, 0, 0)),
-        Form::St { t, a, b } => Parts(10, Operands(t, a, b, 0, 0, 0)),
-        Form::Unary { op, t, a } => Parts(unary_entry(op), Operands(t, a, 0, 0, 0, 0)),
-        Form::Nop => Parts(16, Operands(0, 0, 0, 0, 0, 0)),
-        Form::Halt => Parts(17, Operands(0, 0, 0, 0, 0, 0)),
-        Form::Ldsp { a } => Parts(18, Operands(0, a, 0, 0, 0, 0)),
-        Form::Rts => Parts(19, Operands(0, 0, 0, 0, 0, 0)),
-        Form::Pop { t } => Parts(20, Operands(t, 0, 0, 0, 0, 0)),
-        Form::Push { t } => Parts(21, Operands(t, 0, 0, 0, 0, 0)),
-        Form::JumpRelative { condition, a } => Parts(
-            relative_entry(condition),
+        Form::Binary { op, t, a, b } => row(Kind::Binary(op), Operands(t, a, b, 0, 0, 0)),
+        Form::Constant { op, t, k } => row(Kind::Constant(op), Operands(t, 0, 0, k, 0, 0)),
+        Form::Ld { t, a, b } => row(Kind::Ld, Operands(t, a, b, 0, 0, 0)),
+        Form::St { t, a, b } => row(Kind::St, Operands(t, a, b, 0, 0, 0)),
+        Form::Unary { op, t, a } => row(Kind::Unary(op), Operands(t, a, 0, 0, 0, 0)),
+        Form::Nop => row(Kind::Nop, Operands(0, 0, 0, 0, 0, 0)),
+        Form::Halt => row(Kind::Halt, Operands(0, 0, 0, 0, 0, 0)),
+        Form::Ldsp { a } => row(Kind::Ldsp, Operands(0, a, 0, 0, 0, 0)),
+        Form::Rts => row(Kind::Rts, Operands(0, 0, 0, 0, 0, 0)),
+        Form::Pop { t } => row(Kind::Pop, Operands(t, 0, 0, 0, 0, 0)),
+        Form::Push { t } => row(Kind::Push, Operands(t, 0, 0, 0, 0, 0)),
+        Form::JumpRelative { condition, a } => row(
+            Kind::Jump(condition, Target::Relative),
             Operands(0, a, 0, 0, 0, 0),
         ),
-        Form::JumpAbsolute { condition, a } => Parts(
-            absolute_entry(condition),
+        Form::JumpAbsolute { condition, a } => row(
+            Kind::Jump(condition, Target::Absolute),
             Operands(0, a, 0, 0, 0, 0),
         ),
-        Form::CallRelative { a } => Parts(32, Operands(0, a, 0, 0, 0, 0)),
-        Form::CallAbsolute { a } => Parts(33, Operands(0, a, 0, 0, 0, 0)),
-        Form::JumpDisplaced { condition, d10 } => Parts(
-            displaced_entry(condition),
+        Form::CallRelative { a } => row(Kind::Call(Target::Relative), Operands(0, a, 0, 0, 0, 0)),
+        Form::CallAbsolute { a } => row(Kind::Call(Target::Absolute), Operands(0, a, 0, 0, 0, 0)),
+        Form::JumpDisplaced { condition, d10 } => row(
+            Kind::Jump(condition, Target::Displaced),
             Operands(0, 0, 0, 0, d10, 0),
         ),
-        Form::CallDisplaced { d12 } => Parts(39, Operands(0, 0, 0, 0, 0, d12)),
+        Form::CallDisplaced { d12 } => row(
+            Kind::Call(Target::Displaced),
+            Operands(0, 0, 0, 0, 0, d12),
+        ),
     }
 }
 

@@ -7,7 +7,7 @@ use native.Mathlib.Nat.{add-zero, add-suc, suc-add, le-of-suc-le-suc, not-suc-le
 use native.Mathlib.Omega.{arith}
 use lib.Dec.{T, eqb, eqb→eq, lit<, lit≤}
 use lib.ListN.{length, getD, List·getD-map}
-use Rattle.table.specs.Table.{table, placeOf, kindOf, binaryEntry, constantEntry, unaryEntry, jumpEntry, entry}
+use Rattle.table.specs.Table.{table, placeOf, kindOf, binaryEntry, constantEntry, unaryEntry, conditionRank, firstJump, jumpEntry, entry}
 use Rattle.isa.specs.declared.Kind.{Kind}
 use Rattle.isa.specs.declared.Kind.the-variants.{Undefined, Binary, Constant, Ld, St, Unary, Nop, Halt, Ldsp, Rts, Pop, Push, Jump, Call}
 use Rattle.isa.specs.declared.BinaryOp.{BinaryOp}
@@ -107,18 +107,11 @@ constant-on-O op = elim op [ Addi ↦ lit< tt | Subi ↦ lit< tt | Ldl ↦ lit< 
 pub unary-on-B : (op : UnaryOp) → (11 ≤ unaryEntry op) × (unaryEntry op < 34)
 unary-on-B op = elim op [ Sl0 ↦ omega arith | Sl1 ↦ omega arith | Sr0 ↦ omega arith | Sr1 ↦ omega arith | Not ↦ omega arith ]
 
--- the condition counts on from the first jump of a target
-abbrev pub first : Target → ℕ
-first Relative = 22
-first Absolute = 27
-first Displaced = 34
-
-pub jump-on : (c : Condition) (t : Target) → (first t ≤ jumpEntry c t) × (jumpEntry c t < first t + 5)
-jump-on Always t = elim t [ Relative ↦ omega arith | Absolute ↦ omega arith | Displaced ↦ omega arith ]
-jump-on Negative t = elim t [ Relative ↦ omega arith | Absolute ↦ omega arith | Displaced ↦ omega arith ]
-jump-on Zero t = elim t [ Relative ↦ omega arith | Absolute ↦ omega arith | Displaced ↦ omega arith ]
-jump-on Carry t = elim t [ Relative ↦ omega arith | Absolute ↦ omega arith | Displaced ↦ omega arith ]
-jump-on Overflow t = elim t [ Relative ↦ omega arith | Absolute ↦ omega arith | Displaced ↦ omega arith ]
+pub jump-on : (c : Condition) (t : Target) → (firstJump t ≤ jumpEntry c t) × (jumpEntry c t < firstJump t + 5)
+jump-on c t = let h = below c in omega arith
+  where
+    below : (c : Condition) → conditionRank c < 5
+    below c = elim c [ Always ↦ lit< tt | Negative ↦ lit< tt | Zero ↦ lit< tt | Carry ↦ lit< tt | Overflow ↦ lit< tt ]
 
 -- the line of a word's own kind
 pub line-of : (w : ℕ) → w < 65536 → (k : Kind) → kindOf w ≡ k → Line w (entry k)

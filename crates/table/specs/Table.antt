@@ -104,22 +104,21 @@ unaryEntry Sr0 = 13
 unaryEntry Sr1 = 14
 unaryEntry Not = 15
 
+-- the jumps to one target stand together, in the order always, N, Z, C, V
+abbrev pub conditionRank : Condition → ℕ
+conditionRank Always = 0
+conditionRank Negative = 1
+conditionRank Zero = 2
+conditionRank Carry = 3
+conditionRank Overflow = 4
+
+abbrev pub firstJump : Target → ℕ
+firstJump Relative = 22
+firstJump Absolute = 27
+firstJump Displaced = 34
+
 abbrev pub jumpEntry : Condition → Target → ℕ
-jumpEntry Always Relative = 22
-jumpEntry Always Absolute = 27
-jumpEntry Always Displaced = 34
-jumpEntry Negative Relative = 23
-jumpEntry Negative Absolute = 28
-jumpEntry Negative Displaced = 35
-jumpEntry Zero Relative = 24
-jumpEntry Zero Absolute = 29
-jumpEntry Zero Displaced = 36
-jumpEntry Carry Relative = 25
-jumpEntry Carry Absolute = 30
-jumpEntry Carry Displaced = 37
-jumpEntry Overflow Relative = 26
-jumpEntry Overflow Absolute = 31
-jumpEntry Overflow Displaced = 38
+jumpEntry condition target = firstJump target + conditionRank condition
 
 abbrev pub callEntry : Target → ℕ
 callEntry Relative = 32

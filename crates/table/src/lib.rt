@@ -1,6 +1,7 @@
 // The instruction table of document 01: which instruction a word is, and the word of each.
 ghost use mathlib.Core.Path.{_≡_};
-ghost use Rattle.table.specs.Table.{placeOf, kindOf, wordOf};
+ghost use Prim.Native.Nat.{_<_};
+ghost use Rattle.table.specs.Table.{placeOf, kindOf, binaryEntry, constantEntry, unaryEntry, conditionRank, jumpEntry, callEntry, entry, wordOf};
 use isa::BinaryOp;
 use isa::Condition;
 use isa::ConstantOp;
@@ -81,6 +82,96 @@ pub fn kind_of(word: u16) -> Kind
         38 => Kind::Jump(Condition::Overflow, Target::Displaced),
         39 => Kind::Call(Target::Displaced),
         _ => Kind::Undefined,
+    }
+}
+
+fn binary_entry(op: BinaryOp) -> u8
+    ensures { λ r. ⌜ r ≡ binaryEntry op ⌝ }
+{
+    match op {
+        BinaryOp::Add => 0,
+        BinaryOp::Sub => 1,
+        BinaryOp::And => 2,
+        BinaryOp::Or => 3,
+        BinaryOp::Xor => 4,
+    }
+}
+
+fn constant_entry(op: ConstantOp) -> u8
+    ensures { λ r. ⌜ r ≡ constantEntry op ⌝ }
+{
+    match op {
+        ConstantOp::Addi => 5,
+        ConstantOp::Subi => 6,
+        ConstantOp::Ldl => 7,
+        ConstantOp::Ldh => 8,
+    }
+}
+
+fn unary_entry(op: UnaryOp) -> u8
+    ensures { λ r. ⌜ r ≡ unaryEntry op ⌝ }
+{
+    match op {
+        UnaryOp::Sl0 => 11,
+        UnaryOp::Sl1 => 12,
+        UnaryOp::Sr0 => 13,
+        UnaryOp::Sr1 => 14,
+        UnaryOp::Not => 15,
+    }
+}
+
+fn condition_rank(condition: Condition) -> u8
+    ensures { λ r. ⌜ (r ≡ conditionRank condition) × (r < 5) ⌝ }
+{
+    match condition {
+        Condition::Always => 0,
+        Condition::Negative => 1,
+        Condition::Zero => 2,
+        Condition::Carry => 3,
+        Condition::Overflow => 4,
+    }
+}
+
+fn jump_entry(condition: Condition, target: Target) -> u8
+    ensures { λ r. ⌜ r ≡ jumpEntry condition target ⌝ }
+{
+    let rank = condition_rank(condition);
+    match target {
+        Target::Relative => 22 + rank,
+        Target::Absolute => 27 + rank,
+        Target::Displaced => 34 + rank,
+    }
+}
+
+fn call_entry(target: Target) -> u8
+    ensures { λ r. ⌜ r ≡ callEntry target ⌝ }
+{
+    match target {
+        Target::Relative => 32,
+        Target::Absolute => 33,
+        Target::Displaced => 39,
+    }
+}
+
+// The table the other way round: where an instruction stands in it; 40 for the undefined kind.
+pub fn entry_of(kind: Kind) -> u8
+    ensures { λ r. ⌜ r ≡ entry kind ⌝ }
+{
+    match kind {
+        Kind::Undefined => 40,
+        Kind::Binary(op) => binary_entry(op),
+        Kind::Constant(op) => constant_entry(op),
+        Kind::Ld => 9,
+        Kind::St => 10,
+        Kind::Unary(op) => unary_entry(op),
+        Kind::Nop => 16,
+        Kind::Halt => 17,
+        Kind::Ldsp => 18,
+        Kind::Rts => 19,
+        Kind::Pop => 20,
+        Kind::Push => 21,
+        Kind::Jump(condition, target) => jump_entry(condition, target),
+        Kind::Call(target) => call_entry(target),
     }
 }
 
