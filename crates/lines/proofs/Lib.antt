@@ -6,5 +6,6 @@ pub mod Theorems
 pub mod CommentBytes
 pub mod Entries
 pub mod Grammar
+pub mod Said
 pub mod LineReader
 pub mod ReadBack

@@ -1,5 +1,5 @@
--- What holds of every listing's lines, of every line, number and comment: nine statements, proved in proofs/Theorems.antt,
--- proofs/Grammar.antt, proofs/ReadBack.antt and proofs/CommentBytes.antt.
+-- What holds of every listing's lines, of every line, number and comment: eleven statements, proved in proofs/Theorems.antt,
+-- proofs/Grammar.antt, proofs/Said.antt, proofs/ReadBack.antt and proofs/CommentBytes.antt.
 use mathlib.Core.Path.{_≡_}
 use mathlib.Core.Logic.{_↔_, _⊎_}
 use mathlib.Core.List.{List, [], _∷_, _++_}
@@ -7,7 +7,9 @@ use Prim.Native.Nat.{ℕ, _+_, _-_, _*_, _≤_, _<_, min}
 use lib.ListN.{length, getD, take, drop, replicate}
 use Rattle.hex.specs.Digits.{digitValue, wordText}
 use Rattle.lines.specs.Lines.{lineFeed, space, semicolon, lines, find, firstLine, byteAt, numberAt, readLine}
+use Rattle.lines.specs.Answers.{skipped, entry, refused, lineSays, saidBy}
 use Rattle.lines.specs.Comment.{lineFrom, commentText, commentStart}
+use Rattle.lines.specs.declared.Line.{Line}
 use Rattle.lines.specs.declared.Line.the-variants.{Blank, Entry}
 
 -- the value of the digit at a place, 16 where there is none
@@ -77,6 +79,21 @@ EntryExactly = (line : List ℕ) (address word : ℕ) → (readLine line ≡ Ent
 -- and as blank exactly where it is 'of spaces or none' (proved as `blank-exactly`)
 abbrev pub BlankExactly : Type 0
 BlankExactly = (line : List ℕ) → (readLine line ≡ Blank) ↔ ((spaces : ℕ) × (line ≡ replicate spaces space))
+
+-- 'this paper's number and values for each of its cases': different answers of the line reader are read differently (proved as
+-- `lines-apart`)
+abbrev pub LinesApart : Type 0
+LinesApart = (x y : Line) → lineSays x ≡ lineSays y → x ≡ y
+
+-- and they are an entry's address and word, nothing for a line that is skipped, and 2 for a line that is neither (proved as
+-- `said-exactly`)
+abbrev pub SaidExactly : Type 0
+SaidExactly =
+    (line : List ℕ)
+    → ((address word : ℕ) → (saidBy line ≡ entry address word) ↔ EntryLine line address word)
+    × ((saidBy line ≡ skipped) ↔ ((spaces : ℕ) × (line ≡ replicate spaces space)))
+    × ((saidBy line ≡ refused 2)
+    ↔ (((address word : ℕ) → EntryLine line address word → ⊥) × ((spaces : ℕ) → line ≡ replicate spaces space → ⊥)))
 
 -- what is looked for stands where it is found, if anywhere, and not before; else the place is the end (proved as `find-first`)
 abbrev pub FindFirst : Type 0

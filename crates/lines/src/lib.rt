@@ -5,9 +5,9 @@ ghost use Prim.Native.Nat.{_+_, _≤_, min};
 ghost use lib.Dec.{leb};
 ghost use lib.ListN.{length, drop};
 ghost use Rattle.hex.specs.Digits.{digitValue, Holds};
-ghost use Rattle.lines.specs.Lines.{find, firstLine, afterSpaces, ends, fourDigits, numberAt, entryFrom, readLine};
+ghost use Rattle.lines.specs.Lines.{find, firstLine, afterSpaces, ends, fourDigits, numberAt, entryFrom};
 ghost use Rattle.lines.specs.LineReader.{entryAtFront, entryLength, entryAlone, lineWith};
-ghost use Rattle.lines.specs.declared.Line.the-variants.{IllFormed};
+ghost use Rattle.lines.specs.Answers.{refused, lineSays, saidBy};
 ghost use Rattle.lines.specs.Comment.{commentText, commentStart};
 
 const LINE_FEED: u8 = 10;
@@ -221,7 +221,7 @@ fn first_line(s: &[u8]) -> &[u8]
 // digits' table. Any table is taken; the answer is promised where the table holds the digits, and is free where it does not, which nothing
 // uses.
 pub fn read_line_by(table: &[u8; 256], rest: &[u8]) -> Read
-    ensures { λ r. ⌜ (Holds (now (table .entry)) → (r .line ≡ readLine (firstLine (now (rest .entry)))) × (r .length ≡ length (firstLine (now (rest .entry))))) ⌝ }
+    ensures { λ r. ⌜ (Holds (now (table .entry)) → (lineSays (r .line) ≡ saidBy (firstLine (now (rest .entry)))) × (r .length ≡ length (firstLine (now (rest .entry))))) ⌝ }
 {
     let front = entry_at_front(table, rest);
     let n = entry_length(front);
@@ -236,7 +236,7 @@ pub fn read_line_by(table: &[u8; 256], rest: &[u8]) -> Read
 // The same for a line that is known not to be ill-formed: what follows its entry is not looked at. Of an ill-formed line the length is
 // promised, and what the line says is free, which nothing uses.
 pub fn read_sound_line_by(table: &[u8; 256], rest: &[u8]) -> Read
-    ensures line { λ r. ⌜ (Holds (now (table .entry)) → (readLine (firstLine (now (rest .entry))) ≡ IllFormed → ⊥) → r .line ≡ readLine (firstLine (now (rest .entry)))) ⌝ }
+    ensures line { λ r. ⌜ (Holds (now (table .entry)) → (saidBy (firstLine (now (rest .entry))) ≡ refused 2 → ⊥) → lineSays (r .line) ≡ saidBy (firstLine (now (rest .entry)))) ⌝ }
     ensures length { λ r. ⌜ (Holds (now (table .entry)) → r .length ≡ length (firstLine (now (rest .entry)))) ⌝ }
 {
     let front = entry_at_front(table, rest);

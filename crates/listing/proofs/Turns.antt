@@ -7,10 +7,12 @@ use borrow.Author.Tests.{ne-eqb}
 use lib.Dec.{lit≤}
 use lib.ListN.{length, take, drop, length-set, drop-of-length-le}
 use Rattle.lines.specs.Lines.{lines, firstLine, readLine}
+use Rattle.lines.specs.Answers.{refused, lineSays, saidBy}
 use Rattle.lines.specs.declared.Line.{Line}
 use Rattle.lines.specs.declared.Line.the-variants.{Blank, Entry, IllFormed}
 use Rattle.lines.proofs.Places.{to-end}
 use Rattle.lines.proofs.Front.{front-at, first-in}
+use Rattle.lines.proofs.Said.{lines-apart}
 use Rattle.listing.specs.Answers.{faultNumber}
 use Rattle.listing.specs.declared.Fault.{Fault}
 use Rattle.listing.proofs.Faults.{Sound, then}
@@ -35,14 +37,14 @@ pub record Turn (s : List ℕ) (at : ℕ) (x : Line) (n : ℕ) : Type 0 where
   pub splits : lines (drop at s) ≡ firstLine (drop at s) ∷ lines (drop (at + (n + 1)) s)
 
 -- what the line reader answers, given the part of the listing from there on
-pub turn : (s : List ℕ) (at : ℕ) {x : Line} {n : ℕ} → at < length s
-    → (x ≡ readLine (firstLine (take (length s - at) (drop at s)))) × (n ≡ length (firstLine (take (length s - at) (drop at s))))
+pub turn : (s : List ℕ) (at : ℕ) (x : Line) {n : ℕ} → at < length s
+    → (lineSays x ≡ saidBy (firstLine (take (length s - at) (drop at s)))) × (n ≡ length (firstLine (take (length s - at) (drop at s))))
     → Turn s at x n
-turn s at {x} {n} h read =
+turn s at x {n} h read =
     let e : n ≡ length (firstLine (drop at s)) = rw to-end at (read .1) in
     record {
       within = omega (arith, e, first-in s at);
-      says = rw to-end at (read .0);
+      says = lines-apart x _ (rw to-end at (read .0));
       long = e;
       splits = rw e (front-at s at h);
     }
@@ -69,11 +71,11 @@ module _ {s : List ℕ} {at : ℕ} {x : Line} {n : ℕ} (t : Turn s at x n) wher
 
 -- a line of which nothing is wrong is not ill-formed, and nothing is wrong with those after it
 pub sound-here : (s : List ℕ) (at L lowest : ℕ) → at < length s → Sound L lowest (lines (drop at s))
-    → (readLine (firstLine (take (length s - at) (drop at s))) ≡ IllFormed → ⊥)
+    → (saidBy (firstLine (take (length s - at) (drop at s))) ≡ refused 2 → ⊥)
     × ((next : ℕ) × Sound L next (lines (drop (at + (length (firstLine (drop at s)) + 1)) s)))
 sound-here s at L lowest h e = rw to-end (by (rw (front-at s at h) at e)) where
-  by : {line : List ℕ} {rest : List (List ℕ)} → Sound L lowest (line ∷ rest) → (readLine line ≡ IllFormed → ⊥) × ((next : ℕ) × Sound L next rest)
-  by (then lowest line f r) = (λ z. omega (arith, f, ap (faultOf L lowest) z), (lowestAfter (readLine line) lowest, r))
+  by : {line : List ℕ} {rest : List (List ℕ)} → Sound L lowest (line ∷ rest) → (saidBy line ≡ refused 2 → ⊥) × ((next : ℕ) × Sound L next rest)
+  by (then lowest line f r) = (λ z. omega (arith, f, ap (faultOf L lowest) (lines-apart (readLine line) IllFormed z)), (lowestAfter (readLine line) lowest, r))
 
 -- past the last line
 pub no-fault : (s : List ℕ) (L lowest at : ℕ) → length s ≤ at → firstFault L lowest at (lines (drop at s)) ≡ sound

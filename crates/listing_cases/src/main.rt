@@ -369,6 +369,21 @@ fn show_little() {
     show_comment(b";", 0);
 }
 
+// A comment of 200 bytes behind 80 others: from the line's start, from its `;` and from its own middle.
+fn show_far() {
+    let text = b"\
+        0000 1234                                                                      ;\
+        1 comment of 200 bytes, 40 to a row.....\
+        2 comment of 200 bytes, 40 to a row.....\
+        3 comment of 200 bytes, 40 to a row.....\
+        4 comment of 200 bytes, 40 to a row.....\
+        5 comment of 200 bytes, 40 to a row.....\
+        \n0001 5678 ; next";
+    show_comment(text, 0);
+    show_comment(text, 79);
+    show_comment(text, 180);
+}
+
 fn main() {
     show_blank_lines();
     show_digits();
@@ -379,4 +394,5 @@ fn main() {
     show_long();
     show_every_offset();
     show_little();
+    show_far();
 }

@@ -1,10 +1,12 @@
--- The theorems of specs/Theorems.antt, by the library's laws of the bitwise operations. Assumes nothing.
+-- The theorems of specs/Theorems.antt, by the library's laws of the bitwise operations and of lists. Assumes nothing.
 use mathlib.Core.Path.{_≡_, ap, _∙_}
 use Prim.Native.Nat.{ℕ, zero, suc, _+_, _*_, _/_, _%_, _^_, _<_, min, max}
 use native.Mathlib.Omega.{arith}
 use lib.Bits.{differ, bitAnd, bitOr, bitXor, and-shr, or-shr, xor-shr, and-step, or-step, xor-step}
+use lib.ListN.{length-set, List·getD-eq-default}
+use lib.Seq.{getD-set-same, getD-set-other, set-out}
 use Rattle.words.specs.Arithmetic.{conjunction, disjunction, exclusive}
-use Rattle.words.specs.Theorems.{AndBits, OrBits, XorBits}
+use Rattle.words.specs.Theorems.{AndBits, OrBits, XorBits, MemoryExactly}
 
 -- the last bit of what ends in a bit
 last : (n x m : ℕ) → n ≡ x * 2 + m → m < 2 → n % 2 ≡ m
@@ -39,3 +41,11 @@ xor-bits i p q =
     let e = differ-bits (a % 2) (b % 2) (omega arith) (omega arith) in
     ap (λ (n : ℕ). n % 2) (xor-shr p q i)
     ∙ last (bitXor a b) (bitXor (a / 2) (b / 2)) (differ (a % 2) (b % 2)) (xor-step a b) (omega (arith, e)) ∙ e
+
+pub memory-exactly : MemoryExactly
+memory-exactly memory x v = (
+  λ h. (List·getD-eq-default memory 0 h, set-out memory x v h),
+  λ h. getD-set-same memory x v 0 h,
+  λ y n. getD-set-other memory x y v 0 n,
+  length-set memory x v,
+)

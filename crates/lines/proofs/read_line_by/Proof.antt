@@ -1,7 +1,8 @@
 -- `lines::read_line_by` meets its contract. Assumes nothing.
-use mathlib.Core.Path.{sym}
+use mathlib.Core.Path.{sym, ap}
 use native.Mathlib.Omega.{arith}
 use borrow.Author.Needs.{needs}
+use Rattle.lines.specs.Answers.{lineSays}
 use Rattle.lines.proofs.LineReader.{front-read, text-fits}
 use Rattle.lines.proofs.read_line_by.Statement.{statement}
 use Rattle.lines.proofs.read_line_by.Tie as tie
@@ -30,7 +31,7 @@ returns c = λ h.
     let d = c .before .before .before .before .before in
     let t = d .before .before .args .rest .now in
     let r = front-read t (d .entry-at-front .result) (n .result) (f .result .now) (f .ensures .0) (d .entry-at-front .ensures .1 h) (n .ensures) in
-    (rw (c .line-with .ensures, c .before .after-spaces .ensures) (sym (r .0)), sym (r .1))
+    (rw (c .line-with .ensures, c .before .after-spaces .ensures) (ap lineSays (sym (r .0))), sym (r .1))
 
 pub read-line-by-spec : {M : Type 1} → statement M
 read-line-by-spec =

@@ -1,10 +1,11 @@
 -- `lines::read_sound_line_by` meets its contract. Assumes nothing.
-use mathlib.Core.Path.{refl, sym, _∙_}
+use mathlib.Core.Path.{refl, sym, ap, _∙_}
 use Prim.Native.Nat.{_-_}
 use native.Mathlib.Omega.{arith}
 use borrow.Author.Needs.{needs}
 use lib.ListN.{length, take, drop}
 use Rattle.lines.specs.Lines.{firstLine, afterSpaces}
+use Rattle.lines.specs.Answers.{lineSays}
 use Rattle.lines.proofs.LineReader.{front-read, text-fits, alone-line}
 use Rattle.lines.proofs.read_sound_line_by.Statement.{statement}
 use Rattle.lines.proofs.read_sound_line_by.Tie as tie
@@ -27,7 +28,8 @@ returns c =
     let r = front-read t (d .entry-at-front .result) (n .result) (firstLine part) refl in (
       λ h s.
           let e = r (d .entry-at-front .ensures .1 h) (n .ensures) .0 in
-          c .before .before .entry-alone .ensures ∙ alone-line (d .entry-at-front .result) (afterSpaces (firstLine part)) (λ z. s (e ∙ z)) ∙ sym e,
+          ap lineSays
+          (c .before .before .entry-alone .ensures ∙ alone-line (d .entry-at-front .result) (afterSpaces (firstLine part)) (λ z. s (ap lineSays (e ∙ z))) ∙ sym e),
       λ h. omega (arith, r (d .entry-at-front .ensures .1 h) (n .ensures) .1, c .line-length .ensures),
     )
 

@@ -32,7 +32,7 @@ returns c =
     let r = c .before .before .before .before in
     let l = r .before .before .before in
     let s = l .before .before .args in
-    let t = turn (s .listing .now) (l .loop .at) (r .before .before .loop-test .taken) (r .read-line-by .ensures (l .before .before .pre)) in
+    let t = turn (s .listing .now) (l .loop .at) (r .read-line-by .result .line) (r .before .before .loop-test .taken) (r .read-line-by .ensures (l .before .before .pre)) in
     let v = c .before .before .before .judge .ensures in
     let f = c .before .verdict .given in
     rw (
@@ -51,7 +51,7 @@ loop-again c =
     let r = c .before .before .before .before .before .before in
     let l = r .before .before .before in
     let s = l .before .before .args in
-    let t = turn (s .listing .now) (l .loop .at) (r .before .before .loop-test .taken) (r .read-line-by .ensures (l .before .before .pre)) in
+    let t = turn (s .listing .now) (l .loop .at) (r .read-line-by .result .line) (r .before .before .loop-test .taken) (r .read-line-by .ensures (l .before .before .pre)) in
     let v = c .before .before .before .before .before .judge .ensures in
     let w = c .before .words-of .ensures in (
       rw (c .before .before .lowest-after .ensures)

@@ -34,7 +34,7 @@ loop-again c =
     let w = l .loop .inv .3 in
     let k = sound-here (a .args .listing .now) (l .loop .at) (length (a .args .memory .now)) (w .0) (r .before .before .loop-test .taken) (w .1) in
     let e = r .read-sound-line-by .ensures in
-    let t = turn (a .args .listing .now) (l .loop .at) (r .before .before .loop-test .taken) (e .0 (a .pre .0) (k .0), e .1 (a .pre .0)) in
+    let t = turn (a .args .listing .now) (l .loop .at) (r .read-sound-line-by .result .line) (r .before .before .loop-test .taken) (e .0 (a .pre .0) (k .0), e .1 (a .pre .0)) in
     let m = c .before .before .before .store-line .ensures in
     (rw m (l .loop .inv .0 ∙ stored-line t (l .loop .memory)), rw (m, length-line) (l .loop .inv .1), t .within, (k .1 .0, rw (t .long) (k .1 .1)))
 
