@@ -4,3 +4,4 @@ mod Numbers
 mod Calls
 mod Held
 pub mod Theorems
+pub mod Apart

@@ -1,6 +1,7 @@
--- Nothing is lost between a core and its numbers, so calls one after the other on the same slices are calls of one core. Five statements, proved
--- in proofs/Theorems.antt.
+-- Nothing is lost between a core and its numbers, so calls one after the other on the same slices are calls of one core; and what the functions
+-- return tells apart what it should. Seven statements, proved in proofs/Theorems.antt and proofs/Apart.antt.
 use mathlib.Core.Path.{_≡_}
+use mathlib.Core.Logic.{_⊎_}
 use mathlib.Core.Bool.{true}
 use mathlib.Core.List.{List}
 use Prim.Native.Nat.{ℕ, _+_, _≤_}
@@ -8,10 +9,15 @@ use lib.ListN.{length}
 use Rattle.effects.specs.declared.Stop.the-variants.{Going}
 use Rattle.core.specs.Calls.{Reply, run, step}
 use Rattle.refusals.specs.Theorems.{NoneApplies}
+use Rattle.forms.specs.Answers.{refused}
+use Rattle.forms.specs.Reading.{wordToForm}
+use Rattle.replay.specs.declared.ReplayAnswer.{ReplayAnswer}
 use Rattle.core.specs.TheoremsOfCalls.{runNumbers}
 use Rattle.core.specs.declared.Core.{Core}
+use Rattle.r8.specs.Codes.{Code, ok, undefined, codeNumber}
 use Rattle.r8.specs.Numbers.{registersOf, stateOf, coreOf, isCore}
 use Rattle.r8.specs.Call.{Slices, codeOf, after, called}
+use Rattle.r8.specs.Replay.{replayCode, replayPlace}
 
 -- a core as the code holds it: sixteen registers, a cycle due of a byte
 abbrev pub Held : Core → Type 0
@@ -39,7 +45,7 @@ HeldOn =
 -- memory (proved as `call-after-call`)
 abbrev pub CallAfterCall : Type 0
 CallAfterCall =
-    (first second : Core → List ℕ → Reply) (x : Slices) → codeOf (x .registers) (x .state) (x .answer) ≡ 0
+    (first second : Core → List ℕ → Reply) (x : Slices) → codeOf (x .registers) (x .state) (x .answer) ≡ ok
     → let reply : Reply = first (coreOf (x .registers) (x .state)) (x .memory) in
     let left : Slices = called first x .1 in
     Held (reply .core)
@@ -49,10 +55,22 @@ CallAfterCall =
 -- `run-in-pieces`)
 abbrev pub RunInPieces : Type 0
 RunInPieces =
-    (x : Slices) (i j : ℕ) → codeOf (x .registers) (x .state) (x .answer) ≡ 0
+    (x : Slices) (i j : ℕ) → codeOf (x .registers) (x .state) (x .answer) ≡ ok
     → let core : Core = coreOf (x .registers) (x .state) in
     let pieces : Slices = called (run j) (called (run i) x .1) .1 in
     let whole : Slices = called (run (i + j)) x .1 in
     NoneApplies (runNumbers (i + j) core (x .memory))
     → run i core (x .memory) .core .stop ≡ Going
     → (pieces .registers ≡ whole .registers) × (pieces .state ≡ whole .state) × (pieces .memory ≡ whole .memory)
+
+-- no two codes have one number; each but that of 'done' and document 01's is 100 or more, so none is a number of that document; and its number
+-- that r8_form returns is that of `undefined` (proved as `codes-apart`)
+abbrev pub CodesApart : Type 0
+CodesApart =
+    ((x y : Code) → codeNumber x ≡ codeNumber y → x ≡ y)
+    × ((x : Code) → (x ≡ ok) ⊎ (x ≡ undefined) ⊎ (100 ≤ codeNumber x))
+    × ((word number : ℕ) → wordToForm word ≡ refused number → number ≡ codeNumber undefined)
+
+-- the code that r8_replay returns, and what is then behind `at`, say which answer the replay gave (proved as `replay-apart`)
+abbrev pub ReplayApart : Type 0
+ReplayApart = (x y : ReplayAnswer) → replayCode x ≡ replayCode y → replayPlace x ≡ replayPlace y → x ≡ y
