@@ -5,7 +5,6 @@ use mathlib.Core.Logic.{_⊎_, inl, inr}
 use mathlib.Core.Bool.{cond}
 use Prim.Native.Nat.{ℕ, _≤_}
 use lib.Dec.{eqb, lit≤}
-use Rattle.forms.proofs.Theorems.{refused-word}
 use Rattle.replay.specs.declared.ReplayAnswer.{ReplayAnswer}
 use Rattle.replay.specs.declared.ReplayAnswer.the-variants.{Played, NoCall, NoStretch, NoRoom}
 use Rattle.r8.specs.Codes.{Code, ok, undefined, noRoom, noCore, noCall, noStretch, tooLong, codeNumber}
@@ -37,8 +36,7 @@ own noStretch = inr (inr (lit≤ tt))
 own tooLong = inr (inr (lit≤ tt))
 
 pub codes-apart : CodesApart
-codes-apart =
-    (λ x y e. sym (code-back x) ∙ ap codeFrom e ∙ code-back y, own, λ word number e. refused-word word number .0 e .1)
+codes-apart = (λ x y e. sym (code-back x) ∙ ap codeFrom e ∙ code-back y, own)
 
 -- the answer of a code and a place
 abbrev answerFrom : Code → ℕ → ReplayAnswer

@@ -5,3 +5,4 @@ mod Calls
 mod Held
 pub mod Theorems
 pub mod Apart
+pub mod Exactly
