@@ -25,7 +25,7 @@ int main(void) {
     uint64_t answers[(count + 1) * R8_ANSWER], at;
     uint32_t code = r8_replay(calls, count * R8_CALL, (const uint8_t *)listing, sizeof listing - 1, memory, 256, answers,
                               (count + 1) * R8_ANSWER, &at);
-    if (code != 0) {
+    if (code != R8_OK) {
         printf("not played: %" PRIu32 " at %" PRIu64 "\n", code, at);
         return 1;
     }

@@ -230,15 +230,15 @@ fn compare_single(single: &Single, cover: &mut BTreeMap<String, u64>) -> Result<
     let code = match single.state[..] {
         [0..=15, 0..=2, 0..=255, _] if single.registers.len() == 22 => {
             if single.answer.len() < ANSWER {
-                2
+                NO_ROOM
             } else {
-                0
+                OK
             }
         }
-        _ => 1,
+        _ => NO_CORE,
     };
     let mut kind = format!("returned {code}");
-    if code == 0 {
+    if code == OK {
         let (call, answer) = match single.b {
             Some(b) => ("run", want.core.run(b, &mut want.memory)),
             None => ("step", want.core.step(&mut want.memory)),
@@ -264,7 +264,7 @@ fn compare_single(single: &Single, cover: &mut BTreeMap<String, u64>) -> Result<
         None => step(registers, state, memory, answer),
     };
     same("return code", &[got_code], &[code])?;
-    same_answers(&got.answer, &want.answer, (code == 0) as usize)?;
+    same_answers(&got.answer, &want.answer, (code == OK) as usize)?;
     same("flags, stop, due, clock", &got.state, &want.state)?;
     if got.registers != want.registers {
         let [got, want] = [got, want].map(|side| words(&side.registers));
@@ -343,9 +343,9 @@ fn forms() -> Outcome {
         }
         for length in 0..=FORM + 2 {
             let (code, want) = if length < FORM {
-                (2, mark)
+                (NO_ROOM, mark)
             } else {
-                (row.is_none() as u32, whole)
+                (row.map_or(UNDEFINED, |_| OK), whole)
             };
             let mut got = mark;
             let got_code = form(word, &mut got[..length]);
@@ -367,18 +367,18 @@ fn compare_trace(listing: &[u8], more_rows: isize, more_answer: isize) -> Result
     let mut got_answer = vec![MARK; ANSWER.saturating_add_signed(more_answer)];
     let (mut want_rows, mut want_answer) = (got_rows.clone(), got_answer.clone());
     let code = match () {
-        _ if listing.len() > 65_536 => 1,
-        _ if got_rows.len() < needed || got_answer.len() < ANSWER => 2,
-        _ => 0,
+        _ if listing.len() > 65_536 => TOO_LONG,
+        _ if got_rows.len() < needed || got_answer.len() < ANSWER => NO_ROOM,
+        _ => OK,
     };
-    if code == 0 {
+    if code == OK {
         want_rows[..needed].copy_from_slice(&rows.concat());
         want_answer[..ANSWER].copy_from_slice(&answer_of(&answer));
     }
     let got_code = trace(listing, &mut got_rows, &mut got_answer);
     let lent = [got_rows.len(), got_answer.len()];
     let outcome = same("return code", &[got_code], &[code])
-        .and_then(|_| same_answers(&got_answer, &want_answer, (code == 0) as usize))
+        .and_then(|_| same_answers(&got_answer, &want_answer, (code == OK) as usize))
         .and_then(|_| {
             same(
                 "row",

@@ -10,6 +10,15 @@ pub const RUN: u64 = 2;
 pub const STEP: u64 = 3;
 pub const VIEW: u64 = 4;
 
+/// What the functions return.
+pub const OK: u32 = 0;
+pub const UNDEFINED: u32 = 6;
+pub const NO_ROOM: u32 = 100;
+pub const NO_CORE: u32 = 101;
+pub const NO_CALL: u32 = 102;
+pub const NO_STRETCH: u32 = 103;
+pub const TOO_LONG: u32 = 104;
+
 /// Numbers of a call, an answer, a row of a trace and a form.
 pub const CALL: usize = 3;
 pub const ANSWER: usize = 23;
@@ -29,8 +38,7 @@ extern "C" {
         memory: *mut u16, memory_count: usize, answer: *mut u64, answer_count: usize) -> u32;
 }
 
-// A slice has a pointer that is not null, also when it is empty, and no two that are lent to be
-// written overlap: that is all the header asks.
+// No two slices that are lent to be written overlap: that is all the header asks.
 
 pub fn replay(
     calls: &[u64],

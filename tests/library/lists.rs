@@ -164,18 +164,18 @@ fn verdict(list: &List) -> (u32, u64, &'static str) {
     let count = calls.len();
     for (at, call) in calls.enumerate() {
         let (code, why) = match *call {
-            [case, _, _] if case > VIEW => (1, 0),
-            [RUN, b, _] if b > u32::MAX as u64 => (1, 1),
-            [LOAD, first, second] if first > second => (2, 3),
-            [LOAD, _, second] if second > list.text.len() as u64 => (2, 4),
+            [case, _, _] if case > VIEW => (NO_CALL, 0),
+            [RUN, b, _] if b > u32::MAX as u64 => (NO_CALL, 1),
+            [LOAD, first, second] if first > second => (NO_STRETCH, 3),
+            [LOAD, _, second] if second > list.text.len() as u64 => (NO_STRETCH, 4),
             [_, _, _] => continue,
-            _ => (1, 2),
+            _ => (NO_CALL, 2),
         };
         return (code, at as u64, OUTCOMES[why]);
     }
     match list.room < (count + 1) * ANSWER {
-        true => (3, 0, OUTCOMES[5]),
-        false => (0, count as u64, OUTCOMES[6]),
+        true => (NO_ROOM, 0, OUTCOMES[5]),
+        false => (OK, count as u64, OUTCOMES[6]),
     }
 }
 
@@ -186,7 +186,7 @@ fn compare_list(list: &List, cover: &mut Coverage) -> Result<(), String> {
     let (mut core, mut memory) = (Core::fresh(), list.memory.clone());
     let mut answers = vec![MARK; list.room];
     let mut written = 0;
-    if code == 0 {
+    if code == OK {
         for (call, place) in list.calls.chunks(CALL).zip(answers.chunks_mut(ANSWER)) {
             let seen = |core: &Core| cover.finished(core);
             let answer = play(&mut core, call, &list.text, &mut memory, seen);
@@ -221,7 +221,7 @@ fn check_list(list: &List, cover: &mut Coverage) -> Result<(), String> {
     let Err(mut what) = compare_list(list, cover) else {
         return Ok(());
     };
-    let played = verdict(list).0 == 0;
+    let played = verdict(list).0 == OK;
     let mut calls = &list.calls[..];
     let mut part = list.clone();
     for count in 0..if played { calls.len() / CALL } else { 0 } {

@@ -26,7 +26,7 @@ use Rattle.core.proofs.Refusals.{ready}
 use Rattle.core.proofs.Again.{due-stays}
 use Rattle.r8.specs.Theorems.{Held}
 
-either : {A : Type 0} (P : A → Type 0) (b : Bool) {x y : A} → (b ≡ true → P x) → P y → P (cond b x y)
+pub either : {A : Type 0} (P : A → Type 0) (b : Bool) {x y : A} → (b ≡ true → P x) → P y → P (cond b x y)
 either P true p q = p refl
 either P false p q = q
 

@@ -4,3 +4,5 @@ mod Numbers
 mod Calls
 mod Held
 pub mod Theorems
+pub mod Apart
+pub mod Exactly

@@ -18,6 +18,7 @@ use Rattle.core.proofs.Again.{run-again}
 use Rattle.layout.specs.Layout.{flagsNumber, isOdd, flagsOf, stopNumber, answerSize, answerNumbers}
 use Rattle.layout.proofs.Back.{flags-back}
 use Rattle.layout.proofs.Theorems.{answer-size}
+use Rattle.r8.specs.Codes.{codeNumber}
 use Rattle.r8.specs.Numbers.{registersOf, stateOf, stopOf, coreOf, isCore}
 use Rattle.r8.specs.Call.{Slices, codeOf, after, called}
 use Rattle.r8.specs.Theorems.{CoreBack, NumbersBack, HeldOn, CallAfterCall, RunInPieces}
@@ -106,25 +107,27 @@ held-on core memory b h = (run-held core memory b h, step-held core memory h)
 pub call-after-call : CallAfterCall
 unfolding codeOf
 call-after-call first second x z h =
+    let done : codeNumber (codeOf (x .registers) (x .state) (x .answer)) ≡ 0 = ap codeNumber z in
     let reply = first (coreOf (x .registers) (x .state)) (x .memory) in
     let left = after reply (x .answer) in
-    let same : left ≡ called first x .1 = ap (λ (p : ℕ × Slices). p .1) (answered first x _ refl _ reply z refl refl) in
+    let same : left ≡ called first x .1 = ap (λ (p : ℕ × Slices). p .1) (answered first x _ refl _ reply done refl refl) in
     let back = core-back (reply .core) h in
     let size = answer-size .0 (reply .answer) in
-    let room = taken (x .registers) (x .state) (x .answer) _ refl z .1 in
+    let room = taken (x .registers) (x .state) (x .answer) _ refl done .1 in
     let kept = length-onto (answerNumbers (reply .answer)) (x .answer) (omega arith) in
-    let code : 0 ≡ codeOf (left .registers) (left .state) (left .answer) = rw (back .0, le-ltb (length (left .answer)) answerSize (omega arith)) in
+    let code : 0 ≡ codeNumber (codeOf (left .registers) (left .state) (left .answer)) = rw (back .0, le-ltb (length (left .answer)) answerSize (omega arith)) in
     subst (λ (l : Slices). called second l ≡ (0, after (second (reply .core) (reply .memory)) (l .answer))) same
     (sym (answered second left 0 code (reply .core) _ refl (sym (back .1)) refl))
 
 pub run-in-pieces : RunInPieces
 run-in-pieces x i j z taking going =
+    let done : codeNumber (codeOf (x .registers) (x .state) (x .answer)) ≡ 0 = ap codeNumber z in
     let core = coreOf (x .registers) (x .state) in
-    let held = numbers-back (x .registers) (x .state) (accepted (x .registers) (x .state) (x .answer) _ refl z .0) .0 in
+    let held = numbers-back (x .registers) (x .state) (accepted (x .registers) (x .state) (x .answer) _ refl done .0) .0 in
     let first = run i core (x .memory) in
     let again = run-again core (x .memory) i j taking .1 going in
     let pieces = ap (λ (p : ℕ × Slices). p .1) (call-after-call (run i) (run j) x z (run-held core (x .memory) i held)) in
-    let whole = ap (λ (p : ℕ × Slices). p .1) (answered (run (i + j)) x _ refl core _ z refl refl) in
+    let whole = ap (λ (p : ℕ × Slices). p .1) (answered (run (i + j)) x _ refl core _ done refl refl) in
     let same = sym (again .9) in (
       ap (λ (l : Slices). l .registers) pieces ∙ ap registersOf same ∙ ap (λ (l : Slices). l .registers) whole,
       ap (λ (l : Slices). l .state) pieces ∙ ap stateOf same ∙ ap (λ (l : Slices). l .state) whole,

@@ -7,6 +7,7 @@ use lib.ListN.{length}
 use Rattle.core.specs.Calls.{Reply}
 use Rattle.core.specs.declared.Core.{Core}
 use Rattle.layout.specs.Layout.{answerSize, answerNumbers, onto}
+use Rattle.r8.specs.Codes.{Code, ok, noRoom, noCore, codeNumber}
 use Rattle.r8.specs.Numbers.{registersOf, stateOf, coreOf, isCore}
 
 -- the slices that a caller lends
@@ -20,10 +21,10 @@ abbrev pub slices : List ℕ → List ℕ → List ℕ → List ℕ → Slices
 slices registers state memory answer =
     record { registers = registers; state = state; memory = memory; answer = answer }
 
--- 1: the numbers are no core's; 2: the answer is too short; 0: the call is made
-unfoldable pub codeOf : List ℕ → List ℕ → List ℕ → ℕ
+-- first whether the numbers are a core's, then whether the answer has room
+unfoldable pub codeOf : List ℕ → List ℕ → List ℕ → Code
 codeOf registers state answer =
-    cond (isCore registers state) (cond (ltb (length answer) answerSize) 2 0) 1
+    cond (isCore registers state) (cond (ltb (length answer) answerSize) noRoom ok) noCore
 
 -- the next core, the memory and the answer
 abbrev pub after : Reply → List ℕ → Slices
@@ -38,4 +39,4 @@ abbrev pub returned : ℕ → Slices → Slices → ℕ × Slices
 returned code x next = (code, cond (eqb code 0) next x)
 
 unfoldable pub called : (Core → List ℕ → Reply) → Slices → ℕ × Slices
-called call x = returned (codeOf (x .registers) (x .state) (x .answer)) x (made call x)
+called call x = returned (codeNumber (codeOf (x .registers) (x .state) (x .answer))) x (made call x)

@@ -11,6 +11,7 @@ use Rattle.forms.specs.Writing.{partsOf}
 use Rattle.forms.specs.declared.Form.{Form}
 use Rattle.forms.specs.declared.Parts.{Parts}
 use Rattle.layout.specs.Layout.{onto}
+use Rattle.r8.specs.Codes.{ok, noRoom, codeNumber}
 
 abbrev pub formSize : ℕ
 formSize = 7
@@ -24,11 +25,11 @@ partNumbers x =
 unfoldable pub formNumbers : Form → List ℕ
 formNumbers form = partNumbers (partsOf form)
 
--- 1: the word is undefined
+-- a refusal's number is returned as itself
 abbrev pub formedFrom : Answer Form → List ℕ → ℕ × List ℕ
-formedFrom (given form) slice = (0, onto (formNumbers form) slice)
-formedFrom (refused number) slice = (1, slice)
+formedFrom (given form) slice = (codeNumber ok, onto (formNumbers form) slice)
+formedFrom (refused number) slice = (number, slice)
 
--- what r8_form returns and leaves in the slice; 2: the slice is shorter than seven
+-- what r8_form returns and leaves in the slice: first whether that has room
 unfoldable pub formed : ℕ → List ℕ → ℕ × List ℕ
-formed word slice = cond (ltb (length slice) formSize) (2, slice) (formedFrom (wordToForm word) slice)
+formed word slice = cond (ltb (length slice) formSize) (codeNumber noRoom, slice) (formedFrom (wordToForm word) slice)

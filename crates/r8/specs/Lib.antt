@@ -1,4 +1,5 @@
 -- What the calls for other languages return, and what they leave in the slices that they are lent.
+pub mod Codes
 pub mod Form
 pub mod Numbers
 pub mod Call

@@ -4,13 +4,13 @@ use Prim.Native.Nat.{ℕ}
 use Rattle.replay.specs.Replay.{Replayed}
 use Rattle.replay.specs.declared.ReplayAnswer.{ReplayAnswer}
 use Rattle.replay.specs.declared.ReplayAnswer.the-variants.{Played, NoCall, NoStretch, NoRoom}
+use Rattle.r8.specs.Codes.{Code, ok, noCall, noStretch, noRoom, codeNumber}
 
--- 0: played; 1: a call is none of the five; 2: a load names no stretch of the text; 3: the answers are too short
-abbrev pub replayCode : ReplayAnswer → ℕ
-replayCode (Played count) = 0
-replayCode (NoCall i) = 1
-replayCode (NoStretch i) = 2
-replayCode NoRoom = 3
+abbrev pub replayCode : ReplayAnswer → Code
+replayCode (Played count) = ok
+replayCode (NoCall i) = noCall
+replayCode (NoStretch i) = noStretch
+replayCode NoRoom = noRoom
 
 -- how many calls were played, or which is faulty
 abbrev pub replayPlace : ReplayAnswer → ℕ
@@ -30,4 +30,4 @@ returnedReplay code at memory answers = record { code = code; at = at; memory = 
 
 -- what `replay` says of it, with its answer as numbers
 abbrev pub replayReturned : Replayed → Returned
-replayReturned x = returnedReplay (replayCode (x .answer)) (replayPlace (x .answer)) (x .memory) (x .answers)
+replayReturned x = returnedReplay (codeNumber (replayCode (x .answer))) (replayPlace (x .answer)) (x .memory) (x .answers)

@@ -6,6 +6,7 @@ use lib.Dec.{ltb}
 use lib.ListN.{length}
 use Rattle.layout.specs.Layout.{answerSize, answerNumbers, ontoIfRoom}
 use Rattle.trace.specs.Trace.{Finding, answered, tooLong, noRoom, Trace, traced}
+use Rattle.r8.specs.Codes.{Code, codeNumber}
 
 pub record TraceReturned : Type 0 where
   pub code : ℕ
@@ -15,17 +16,17 @@ pub record TraceReturned : Type 0 where
 abbrev pub traceReturned : ℕ → List ℕ → List ℕ → TraceReturned
 traceReturned code rows answer = record { code = code; rows = rows; answer = answer }
 
--- 0: the run's answer, or the refused load's; 1: the listing is too long; 2: the rows are too short
+-- the run's answer, or the refused load's; or that the listing is too long, or the rows too short
 abbrev pub foundReturned : Finding → List ℕ → ℕ × List ℕ
-foundReturned (answered a) answer = (0, ontoIfRoom (answerNumbers a) answer)
-foundReturned tooLong answer = (1, answer)
-foundReturned noRoom answer = (2, answer)
+foundReturned (answered a) answer = (codeNumber Code.ok, ontoIfRoom (answerNumbers a) answer)
+foundReturned tooLong answer = (codeNumber Code.tooLong, answer)
+foundReturned noRoom answer = (codeNumber Code.noRoom, answer)
 
 abbrev pub afterTrace : Trace → List ℕ → TraceReturned
 afterTrace x answer = traceReturned (foundReturned (x .finding) answer .0) (x .rows) (foundReturned (x .finding) answer .1)
 
--- first the length of the listing (1), then that of the answer (2), then what the trace finds
+-- first the length of the listing, then that of the answer, then what the trace finds
 unfoldable pub tracedReturned : List ℕ → List ℕ → List ℕ → TraceReturned
 tracedReturned listing rows answer =
-    cond (ltb 65536 (length listing)) (traceReturned 1 rows answer)
-    (cond (ltb (length answer) answerSize) (traceReturned 2 rows answer) (afterTrace (traced listing rows) answer))
+    cond (ltb 65536 (length listing)) (traceReturned (codeNumber Code.tooLong) rows answer)
+    (cond (ltb (length answer) answerSize) (traceReturned (codeNumber Code.noRoom) rows answer) (afterTrace (traced listing rows) answer))

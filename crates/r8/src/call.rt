@@ -6,7 +6,9 @@ ghost use Rattle.core.specs.Calls.{run, step};
 ghost use Rattle.core.specs.Answers.{runAnswerOf};
 ghost use Rattle.layout.specs.Layout.{flagsOf, answerNumbers, onto};
 ghost use Rattle.r8.specs.Numbers.{stopOf, hiddenOf, coreOf, registersOf, stateOf, isCore};
+ghost use Rattle.r8.specs.Codes.{codeNumber};
 ghost use Rattle.r8.specs.Call.{codeOf, slices, called};
+use super::codes;
 use core::Core;
 use core::RunReply;
 use effects::Hidden;
@@ -49,15 +51,15 @@ fn is_core(registers: &[u16], state: &[u32]) -> bool
 }
 
 fn code_of(registers: &[u16], state: &[u32], answer: &[u64]) -> u32
-    ensures { λ r. ⌜ r ≡ codeOf (now (registers .entry)) (now (state .entry)) (now (answer .entry)) ⌝ }
+    ensures { λ r. ⌜ r ≡ codeNumber (codeOf (now (registers .entry)) (now (state .entry)) (now (answer .entry))) ⌝ }
 {
     if !is_core(registers, state) {
-        return 1;
+        return codes::NO_CORE;
     }
     if answer.len() < 23 {
-        return 2;
+        return codes::NO_ROOM;
     }
-    0
+    codes::OK
 }
 
 fn bank_of(registers: &[u16]) -> [u16; 16]
@@ -152,12 +154,12 @@ pub extern "C" fn r8_run(
     ensures { λ r. ⌜ (r, slices (now (registers .exit)) (now (state .exit)) (now (memory .exit)) (now (answer .exit))) ≡ called (run b) (slices (now (registers .entry)) (now (state .entry)) (now (memory .entry)) (now (answer .entry))) ⌝ }
 {
     let code = code_of(registers, state, answer);
-    if code != 0 {
+    if code != codes::OK {
         return code;
     }
     let reply = core_of(registers, state).run(b, memory);
     put(reply, registers, state, answer);
-    0
+    codes::OK
 }
 
 // One instruction by the instruction engine.
@@ -171,10 +173,10 @@ pub extern "C" fn r8_step(
     ensures { λ r. ⌜ (r, slices (now (registers .exit)) (now (state .exit)) (now (memory .exit)) (now (answer .exit))) ≡ called step (slices (now (registers .entry)) (now (state .entry)) (now (memory .entry)) (now (answer .entry))) ⌝ }
 {
     let code = code_of(registers, state, answer);
-    if code != 0 {
+    if code != codes::OK {
         return code;
     }
     let reply = core_of(registers, state).step(memory);
     put(reply, registers, state, answer);
-    0
+    codes::OK
 }

@@ -1,6 +1,7 @@
 // The form of a word as seven numbers.
 ghost use mathlib.Core.Path.{_≡_};
 ghost use Rattle.r8.specs.Form.{formNumbers, formed};
+use super::codes;
 use forms::Form;
 use forms::FormAnswer;
 
@@ -25,15 +26,15 @@ pub extern "C" fn r8_form(word: u16, form: &mut [u16]) -> u32
     ensures { λ r. ⌜ (r, now (form .exit)) ≡ formed word (now (form .entry)) ⌝ }
 {
     if form.len() < 7 {
-        return 2;
+        return codes::NO_ROOM;
     }
     let answer = forms::word_to_form(word);
     match answer {
         FormAnswer::Read(read) => {
             let numbers = form_numbers(read);
             super::copy::words(&numbers, form);
-            0
+            codes::OK
         }
-        FormAnswer::Undefined => 1,
+        FormAnswer::Undefined => codes::UNDEFINED,
     }
 }

@@ -1,17 +1,19 @@
 // A list of calls given as data.
 ghost use mathlib.Core.Path.{_≡_};
 ghost use Rattle.replay.specs.Replay.{readCalls, replayed};
+ghost use Rattle.r8.specs.Codes.{codeNumber};
 ghost use Rattle.r8.specs.Replay.{replayCode, replayPlace, replayReturned, returnedReplay};
+use super::codes;
 use replay::ReplayAnswer;
 
 fn code_of(answer: ReplayAnswer) -> u32
-    ensures { λ r. ⌜ r ≡ replayCode answer ⌝ }
+    ensures { λ r. ⌜ r ≡ codeNumber (replayCode answer) ⌝ }
 {
     match answer {
-        ReplayAnswer::Played(_) => 0,
-        ReplayAnswer::NoCall(_) => 1,
-        ReplayAnswer::NoStretch(_) => 2,
-        ReplayAnswer::NoRoom => 3,
+        ReplayAnswer::Played(_) => codes::OK,
+        ReplayAnswer::NoCall(_) => codes::NO_CALL,
+        ReplayAnswer::NoStretch(_) => codes::NO_STRETCH,
+        ReplayAnswer::NoRoom => codes::NO_ROOM,
     }
 }
 

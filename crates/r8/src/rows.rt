@@ -2,6 +2,7 @@
 ghost use mathlib.Core.Path.{_≡_};
 ghost use Rattle.trace.specs.Trace.{findingOf};
 ghost use Rattle.r8.specs.Trace.{foundReturned, tracedReturned, traceReturned};
+use super::codes;
 use core::LoadAnswer;
 use core::RunAnswer;
 use trace::TraceAnswer;
@@ -22,15 +23,15 @@ fn put_found(found: TraceAnswer, answer: &mut [u64]) -> u32
                 end: end,
             };
             layout::put(answer, layout::run_numbers(ran));
-            0
+            codes::OK
         }
         TraceAnswer::Faulty(fault, offset) => {
             let faulty = LoadAnswer::Faulty(fault, offset);
             layout::put(answer, layout::load_numbers(faulty));
-            0
+            codes::OK
         }
-        TraceAnswer::TooLong => 1,
-        TraceAnswer::NoRoom => 2,
+        TraceAnswer::TooLong => codes::TOO_LONG,
+        TraceAnswer::NoRoom => codes::NO_ROOM,
     }
 }
 
@@ -39,10 +40,10 @@ pub extern "C" fn r8_trace(listing: &[u8], rows: &mut [u64], answer: &mut [u64])
     ensures { λ r. ⌜ traceReturned r (now (rows .exit)) (now (answer .exit)) ≡ tracedReturned (now (listing .entry)) (now (rows .entry)) (now (answer .entry)) ⌝ }
 {
     if 65536 < listing.len() {
-        return 1;
+        return codes::TOO_LONG;
     }
     if answer.len() < 23 {
-        return 2;
+        return codes::NO_ROOM;
     }
     let found = trace::trace(listing, rows);
     put_found(found, answer)
