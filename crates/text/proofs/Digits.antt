@@ -7,7 +7,8 @@ use native.Mathlib.Nat.{div-lt-iff-lt-mul, pow-suc, mod-eq-of-lt, one-le-pow}
 use native.Mathlib.Omega.{arith}
 use borrow.Author.Tests.{ltb-true, ltb-false, lt-ltb, le-ltb}
 use lib.Dec.{ltb}
-use lib.ListN.{length, getD, set, replicate, length-append, List·getD-append}
+use lib.ListN.{length, take, drop, getD, set, replicate, length-append, length-replicate, List·getD-append}
+use lib.Seq.{take-all, drop-at}
 use Rattle.text.specs.Decimal.{lastDigit, decimalIn, decimalText, atEnd, readAfter}
 use Rattle.text.specs.Theorems.{DecimalBack, DecimalDigits, NoLeadingZero, DecimalAtMost}
 
@@ -91,6 +92,22 @@ decimal-at-most = by-digits (λ n l. (k : ℕ) → n < 10 ^ suc k → length l �
     more n l large few (suc k) low =
         rw (length-append l (lastDigit n ∷ []))
         (omega (arith, few k (div-lt-iff-lt-mul {k = 10} {x = n} {y = 10 ^ suc k} (omega arith) .1 (rw (pow-suc 10 (suc k)) at low))))
+
+-- a number's digits are all at the end of 20 bytes
+module _ (n : ℕ) (low : n < 10 ^ 20) where
+  few : length (decimalText n) ≤ 20
+  few = decimal-at-most n 19 low
+
+  pub end-length : length (atEnd (decimalText n) .digits) ≡ 20
+  end-length =
+      rw (length-append (replicate (20 - length (decimalText n)) 32) (decimalText n), length-replicate {A = ℕ} (20 - length (decimalText n)) 32)
+      (omega (arith, few))
+
+  pub end-text : take (20 - atEnd (decimalText n) .start) (drop (atEnd (decimalText n) .start) (atEnd (decimalText n) .digits)) ≡ decimalText n
+  end-text =
+      let start = 20 - length (decimalText n) in
+      ap (take (20 - start)) (drop-at (replicate start 32) (decimalText n) start (length-replicate {A = ℕ} start 32))
+      ∙ take-all (20 - start) (decimalText n) (omega (arith, few))
 
 -- digits under way: those put stand at the end of 20 bytes, and those of the rest come before them
 pub record Put (whole digits : List ℕ) (start rest : ℕ) : Type 0 where
