@@ -1,2 +1,3 @@
--- What the contracts of `output` cite.
+-- What the contracts of `output` cite, and a theorem about it.
 pub mod Page
+pub mod Theorems

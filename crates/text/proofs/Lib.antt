@@ -1,2 +1,3 @@
--- The theorems of `text`, and an end read back from its letter.
+-- The theorems of `text`, an end read back from its letter, and laws for the code of decimal text.
 pub mod Apart
+pub mod Digits

@@ -1,14 +1,40 @@
-// How flags, end letters and the lines of a trace are written.
+// How numbers, flags, end letters and the lines of a trace are written.
 ghost use mathlib.Core.Path.{_≡_};
-ghost use Rattle.text.specs.Text.{lastDigit, bitText, flagsText, lineText, letterText};
+ghost use Rattle.text.specs.Decimal.{lastDigit, decimalText, atEnd};
+ghost use Rattle.text.specs.Text.{bitText, flagsText, lineText, letterText};
 use core::End;
 use isa::Cycles;
 use isa::Flags;
 
-fn last_digit(n: u32) -> u8
+fn last_digit(n: u64) -> u8
     ensures { λ r. ⌜ r ≡ lastDigit n ⌝ }
 {
     48 + (n % 10) as u8
+}
+
+// A number in base ten, at the end of as many bytes as one has digits at most, spaces before it, and where it starts.
+pub struct Figure {
+    pub digits: [u8; 20],
+    pub start: usize,
+}
+
+pub fn decimal(n: u64) -> Figure
+    ensures { λ r. ⌜ r ≡ atEnd (decimalText n) ⌝ }
+{
+    let mut digits = [b' '; 20];
+    let mut start: usize = 20;
+    let mut rest = n;
+    loop {
+        start -= 1;
+        digits[start] = last_digit(rest);
+        if rest < 10 {
+            return Figure {
+                digits: digits,
+                start: start,
+            };
+        }
+        rest /= 10;
+    }
 }
 
 fn bit(set: bool) -> u8
@@ -41,7 +67,7 @@ pub fn line_text(address: u16, word: u16, cycles: Cycles, flags: Flags) -> [u8; 
         w[2],
         w[3],
         b' ',
-        last_digit(cycles.0),
+        last_digit(cycles.0 as u64),
         b' ',
         f[0],
         f[1],

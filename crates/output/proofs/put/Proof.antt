@@ -13,6 +13,7 @@ use Rattle.output.proofs.put.Tie as tie
 
 record Reached (page₀ : List ℕ) (from : ℕ) (bytes page : List ℕ) (at i i-end : ℕ) : Type 0 where
   all : i-end ≡ length bytes
+  size : length page ≡ length page₀
   put : pageAt page at ≡ putOn (pageAt page₀ from) (take i bytes)
 
 abbrev Inv-loop : tie.InvT-loop
@@ -23,21 +24,23 @@ abbrev μ-loop : tie.MeasureT-loop
 
 loop-holds : tie.Need-loop-holds Inv-loop μ-loop
 unfolding putOn
-loop-holds c = record { all = refl; put = refl }
-
-loop-less : tie.Need-loop-less Inv-loop μ-loop
-loop-less c = omega arith
+loop-holds c = record { all = refl; size = refl; put = refl }
 
 loop-again : tie.Need-loop-again Inv-loop μ-loop
 loop-again c =
-    let l = c .before .before .before .before .loop in
-    let bytes = c .before .before .before .before .before .before .args .bytes .now in
-    record { all = l .inv .all; put = put-one _ bytes (l .i) (l .inv .put) (search needs) (c .before .room .ensures .1) }
+    let l = c .before .before .before .before .before .before .loop in
+    let put = c .before .before .put-byte in
+    let bytes = c .before .before .before .before .before .before .before .before .before .args .bytes .now in
+    record {
+      all = l .inv .all;
+      size = search needs;
+      put = put-one _ bytes (l .i) (l .inv .put) (search needs) (put .ensures);
+    }
 
 returns : tie.Need-returns Inv-loop μ-loop
 returns c =
     let l = c .before .loop in
-    let bytes = c .before .before .before .args .bytes .now in
+    let bytes = c .before .before .before .before .args .bytes .now in
     rw (← take-all (l .i) bytes (omega (arith, l .inv .all, c .loop-test .left))) (l .inv .put)
 
 pub put-spec : {M : Type 1} → statement M
@@ -47,7 +50,7 @@ put-spec =
     Inv-loop
     μ-loop
     loop-holds
-    (λ c κs. search needs) (λ c. search needs) (λ c. search needs) (λ c. search needs) (λ c. search needs)
-    loop-less
+    (λ c. search needs) (λ c κs. search needs) (λ c. search needs) (λ c. search needs)
     loop-again
+    (λ c. search needs)
     returns)

@@ -6,20 +6,14 @@ use Rattle.output.proofs.put_totals.Tie as tie
 
 returns : tie.Need-returns
 returns c =
-    let cycles = c .before .before .before .before .before .before .put-number .ensures in
-    let instructions = c .before .before .before .put-number2 .ensures in
-    record {
-      cyclesCount = cycles .count;
-      cyclesFewest = cycles .fewest;
-      instructionsCount = instructions .count;
-      instructionsFewest = instructions .fewest;
-      put = put-both _ _ _ (put-both _ _ _ (cycles .put) (instructions .put)) (c .put .ensures);
-    }
+    let cycles = c .before .before .before .before .before .before .before .before .before .before .before .before .put-number .ensures in
+    let instructions = c .before .before .before .before .before .before .before .put-number2 .ensures in
+    put-both _ _ _ (put-both _ _ _ cycles instructions) (c .before .before .put .ensures)
 
 pub put-totals-spec : {M : Type 1} → statement M
 put-totals-spec =
     tie.close
     (tie.spec
     (λ c. search needs) (λ c κs. search needs) (λ c. search needs) (λ c κs. search needs) (λ c. search needs)
-    (λ c κs. search needs)
+    (λ c κs. search needs) (λ c. search needs)
     returns)

@@ -7,10 +7,10 @@ use Rattle.text.proofs.line_text.Tie as tie
 
 returns : tie.Need-returns
 returns c =
-    let a = c .before .before .before .word-text .ensures in
-    let w = c .before .before .word-text2 .ensures in
+    let a = c .before .before .before .before .word-text .ensures in
+    let w = c .before .before .before .word-text2 .ensures in
     let cycles = c .last-digit .ensures in
-    let f = c .before .flags-text .ensures in
+    let f = c .before .before .flags-text .ensures in
     λ j. getD (a j) 0 0 ∷ getD (a j) 1 0 ∷ getD (a j) 2 0 ∷ getD (a j) 3 0
     ∷ 32 ∷ getD (w j) 0 0 ∷ getD (w j) 1 0 ∷ getD (w j) 2 0 ∷ getD (w j) 3 0
     ∷ 32 ∷ cycles j
@@ -23,6 +23,6 @@ line-text-spec =
     (λ c κs. search needs) (λ c κs. search needs) (λ c κs. search needs)
     (λ c. search needs) (λ c. search needs) (λ c. search needs) (λ c. search needs)
     (λ c. search needs) (λ c. search needs) (λ c. search needs) (λ c. search needs)
-    (λ c κs. search needs)
+    (λ c. search needs) (λ c κs. search needs)
     (λ c. search needs) (λ c. search needs) (λ c. search needs) (λ c. search needs)
     returns)

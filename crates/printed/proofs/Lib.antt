@@ -1,0 +1,2 @@
+-- Laws for the code of `printed`.
+pub mod Lines

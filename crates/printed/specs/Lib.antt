@@ -1,0 +1,2 @@
+-- What the programs write.
+pub mod Printed
