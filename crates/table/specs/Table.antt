@@ -83,7 +83,7 @@ placeOf w =
 unfoldable pub kindOf : ℕ → Kind
 kindOf w = getD table (placeOf w) Undefined
 
--- where the instructions of a class stand in the table
+-- where the instructions of a class stand in the table: its order the other way round, which `TableEntries` shows of every number here
 abbrev pub binaryEntry : BinaryOp → ℕ
 binaryEntry Add = 0
 binaryEntry Sub = 1
