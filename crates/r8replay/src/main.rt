@@ -10,12 +10,12 @@ fn word(n: u64) -> u16 {
     (n % 65536) as u16
 }
 
-fn put_flags(page: &mut [u8; 8192], from: usize, flags: u64) -> usize {
+fn put_flags(page: &mut [u8], from: usize, flags: u64) -> usize {
     let at = output::put(page, from, b" NZCV ");
     output::put(page, at, &text::flags_text(layout::flags_of(flags)))
 }
 
-fn put_stop(page: &mut [u8; 8192], from: usize, stop: u64) -> usize {
+fn put_stop(page: &mut [u8], from: usize, stop: u64) -> usize {
     if stop == 0 {
         return output::put(page, from, b" going");
     }
@@ -26,14 +26,14 @@ fn put_stop(page: &mut [u8; 8192], from: usize, stop: u64) -> usize {
 }
 
 // What a run or a step answers: cycles, instructions and the end letter.
-fn put_run(page: &mut [u8; 8192], from: usize, numbers: &[u64]) -> usize
+fn put_run(page: &mut [u8], from: usize, numbers: &[u64]) -> usize
     requires { ⌜ 4 ≤ length (now numbers) ⌝ }
 {
     output::put_totals(page, from, numbers[1], numbers[2], (numbers[3] % 256) as u8)
 }
 
 // R0 to R15, at places 1 to 16.
-fn put_bank(page: &mut [u8; 8192], from: usize, numbers: &[u64]) -> usize
+fn put_bank(page: &mut [u8], from: usize, numbers: &[u64]) -> usize
     requires { ⌜ 17 ≤ length (now numbers) ⌝ }
 {
     let mut at = output::put(page, from, b"R");
@@ -44,7 +44,7 @@ fn put_bank(page: &mut [u8; 8192], from: usize, numbers: &[u64]) -> usize
 }
 
 // What a view answers: registers, PC, SP, flags, stop state and clock; the cycle due, at place 21, is 1.
-fn put_view(page: &mut [u8; 8192], from: usize, numbers: &[u64]) -> usize
+fn put_view(page: &mut [u8], from: usize, numbers: &[u64]) -> usize
     requires { ⌜ 23 ≤ length (now numbers) ⌝ }
 {
     let mut at = put_bank(page, from, numbers);
@@ -56,7 +56,7 @@ fn put_view(page: &mut [u8; 8192], from: usize, numbers: &[u64]) -> usize
 }
 
 // An answer's 23 numbers, the case first.
-fn put_answer(page: &mut [u8; 8192], from: usize, numbers: &[u64]) -> usize
+fn put_answer(page: &mut [u8], from: usize, numbers: &[u64]) -> usize
     requires { ⌜ 23 ≤ length (now numbers) ⌝ }
 {
     let kind = numbers[0];
@@ -79,61 +79,68 @@ fn put_answer(page: &mut [u8; 8192], from: usize, numbers: &[u64]) -> usize
     output::put_number(page, at, b" at ", numbers[2])
 }
 
-// Writes a line for each answer. The last 23 numbers are what the list left, which has no line.
-fn write_answers(answers: &[u64]) {
-    let mut page = [0u8; 8192];
+// Puts a line for each answer. The last 23 numbers are what the list left, which has no line.
+fn put_answers(page: &mut [u8], answers: &[u64]) -> usize {
     let mut at = 0;
     let mut from = 0;
     while 46 <= answers.len() - from {
-        at = put_answer(&mut page, at, &answers[from..]);
-        at = output::put(&mut page, at, b"\n");
+        at = put_answer(page, at, &answers[from..]);
+        at = output::put(page, at, b"\n");
         from += 23;
     }
-    output::write_page(&page, at);
+    at
 }
 
-fn write_line(before: &[u8], n: usize, after: &[u8]) {
-    let mut page = [0u8; 8192];
-    let mut at = output::put_number(&mut page, 0, before, n as u64);
-    at = output::put(&mut page, at, after);
-    output::write_page(&page, at);
+fn put_line(page: &mut [u8], before: &[u8], n: usize, after: &[u8]) -> usize {
+    let at = output::put_number(page, 0, before, n as u64);
+    output::put(page, at, after)
 }
 
-// Plays calls and writes their answers. A script's calls are all calls, with stretches of the text (`ScriptPlayed` in script), and the
+fn put_many(page: &mut [u8]) -> usize {
+    output::put(page, 0, b"too many calls\n")
+}
+
+// Plays calls and puts their answers. A script's calls are all calls, with stretches of the text (`ScriptPlayed` in script), and the
 // answers fit: the last three cases do not arise.
-fn play(calls: &[u64], input: &[u8], answers: &mut [u64]) {
+fn play(page: &mut [u8], calls: &[u64], input: &[u8], answers: &mut [u64]) -> usize {
     let mut memory = [0u16; 16384];
     let answer = replay::replay(calls, input, &mut memory, answers);
     match answer {
-        ReplayAnswer::Played(_) => write_answers(answers),
-        ReplayAnswer::NoCall(i) => write_line(b"no call ", i, b"\n"),
-        ReplayAnswer::NoStretch(i) => write_line(b"no listing of call ", i, b"\n"),
-        ReplayAnswer::NoRoom => write_many(),
+        ReplayAnswer::Played(_) => put_answers(page, answers),
+        ReplayAnswer::NoCall(i) => put_line(page, b"no call ", i, b"\n"),
+        ReplayAnswer::NoStretch(i) => put_line(page, b"no listing of call ", i, b"\n"),
+        ReplayAnswer::NoRoom => put_many(page),
     }
 }
 
-fn write_many() {
-    io::write_all(1, b"too many calls\n");
-}
-
-// Plays a script, with lent room for its calls and their answers.
-fn play_script(input: &[u8], calls: &mut [u64], answers: &mut [u64]) {
+// Plays a script, with lent room for its calls and their answers, and answers how many bytes it has put.
+fn play_script(page: &mut [u8], input: &[u8], calls: &mut [u64], answers: &mut [u64]) -> usize {
     let read = script::read(input, calls);
     match read {
         ScriptAnswer::Read(count) => {
             if answers.len() / 23 <= count {
-                return write_many();
+                return put_many(page);
             }
             let numbers = count * 3;
             let places = count * 23 + 23;
-            play(&calls[..numbers], input, &mut answers[..places]);
+            play(page, &calls[..numbers], input, &mut answers[..places])
         }
-        ScriptAnswer::Unreadable(line) => write_line(b"line ", line, b" cannot be read\n"),
-        ScriptAnswer::NoRoom => write_many(),
+        ScriptAnswer::Unreadable(line) => put_line(page, b"line ", line, b" cannot be read\n"),
+        ScriptAnswer::NoRoom => put_many(page),
     }
 }
 
-// 65,536 bytes have at most 13,107 calls (`FewCalls` in script), so there is room for their numbers, their answers and what they left.
+// Writes out the first so many bytes, or all where there are no more.
+fn write_first(page: &[u8], count: usize) {
+    if count < page.len() {
+        io::write_all(1, &page[0..count]);
+    } else {
+        io::write_all(1, page);
+    }
+}
+
+// 65,536 bytes have at most 13,107 calls (`FewCalls` in script), so there is room for their numbers, their answers and what they left, and
+// on the page for as many of the longest lines, those of views, which have 135 bytes at most.
 fn main() {
     let mut input = [0u8; 65537];
     let length = io::read_full(0, &mut input);
@@ -143,5 +150,7 @@ fn main() {
     }
     let mut calls = [0u64; 39324];
     let mut answers = [0u64; 301484];
-    play_script(&input[..length], &mut calls, &mut answers);
+    let mut page = [0u8; 1769445];
+    let count = play_script(&mut page, &input[..length], &mut calls, &mut answers);
+    write_first(&page, count);
 }
