@@ -227,9 +227,9 @@ module _ (c : Core) (M : List ℕ) (room : c .clock .0 < 4294967295) where
       said (word o t a b) _ _ _ _ _ _ (ap (λ (x : Kind). twoOn 2 x t a b) n) (ap (λ (x : Kind). threeOn 3 x (word o t a b)) n)
       (ap (λ (x : Kind). fourOn 4 x t) n ∙ kept t (ends c M) refl) (row o t a b (t / 4) ho ht ha hb refl)
 
-pub cycles : CyclesExactly
+pub cycles-exactly : CyclesExactly
 unfolding table costOf
-cycles c M room ra rb t a b u q ht ha hb hu hq =
+cycles-exactly c M room ra rb t a b u q ht ha hb hu hq =
     let hk : k a b < 65536 = omega arith in
     let f = c .flags in
     let row = row c M room in

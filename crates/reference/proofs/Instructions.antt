@@ -36,7 +36,7 @@ use Rattle.core.specs.declared.End.the-variants.{U}
 use Rattle.core.proofs.Spent.{one-when-due}
 use Rattle.core.proofs.Replies.{step-starts}
 use Rattle.reference.specs.Notation.{word, k, d10, d12, _⊕_, _⊖_, all, added, subtracted, NZ, plain}
-use Rattle.reference.specs.Instructions.{setR, next, ending, R, PC, SP, jump, call, _⟹_, Table, Instructions, EveryWord}
+use Rattle.reference.specs.Instructions.{setR, next, ending, R, PC, SP, jump, call, _⟹_, Table, InstructionsExactly, EveryWord}
 use Rattle.reference.proofs.Fields as fields
 use Rattle.reference.proofs.Fields.{kindBy}
 use Rattle.reference.proofs.Overflow.{sum-overflows, difference-overflows}
@@ -167,9 +167,9 @@ sum-said p q hp hq = ap (λ (x : Bool). all (p ⊕ q) (leb 65536 (p + q)) x) (su
 pub difference-said : (p q : ℕ) → p < 65536 → q < 65536 → alu.subtracted p q ≡ subtracted p q
 difference-said p q hp hq = ap (λ (x : Bool). all (p ⊖ q) (leb q p) x) (difference-overflows p q hp hq)
 
-pub instructions : Instructions
+pub instructions-exactly : InstructionsExactly
 unfolding table costOf
-instructions c M least most going due room words t a b u q ht ha hb hu hq =
+instructions-exactly c M least most going due room words t a b u q ht ha hb hu hq =
     let ra : R c M a < 65536 = words a in
     let rb : R c M b < 65536 = words b in
     let rt : R c M t < 65536 = words t in

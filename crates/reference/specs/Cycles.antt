@@ -165,7 +165,7 @@ module _ (c : Core) (M : List ℕ) where
     pub undefined-B : 0xB ≤ b → Row (word 0xB t a b) (ends ▹ setStop Undefined) ends ends
     pub undefined-C : 0xC ≤ b → Row (word 0xC t a b) (ends ▹ setStop Undefined) ends ends
 
--- the page: of every core whose clock has room for a cycle, also one that is stopped, on every memory (proved as `cycles`)
+-- the page: of every core whose clock has room for a cycle, also one that is stopped, on every memory (proved as `cycles-exactly`)
 abbrev pub CyclesExactly : Type 0
 CyclesExactly =
     (c : Core) (M : List ℕ) → c .clock .0 < 4294967295 → c .hidden .ra < 65536 → c .hidden .rb < 65536

@@ -143,9 +143,9 @@ module _ (c : Core) (M : List ℕ) where
     pub undefined-B : 0xB ≤ b → word 0xB t a b ⟹ ending 2 Undefined U
     pub undefined-C : 0xC ≤ b → word 0xC t a b ⟹ ending 2 Undefined U
 
--- the page: on every memory of 1 to 65,536 words and every core of words that a step takes (proved as `instructions`)
-abbrev pub Instructions : Type 0
-Instructions =
+-- the page: on every memory of 1 to 65,536 words and every core of words that a step takes (proved as `instructions-exactly`)
+abbrev pub InstructionsExactly : Type 0
+InstructionsExactly =
     (c : Core) (M : List ℕ)
     → 1 ≤ length M
     → length M ≤ 65536
