@@ -13,7 +13,8 @@ static void check(int holds, int line, const char *what) {
 #define CHECK(fact) check((fact) ? 1 : 0, __LINE__, #fact)
 
 /* the types, once more */
-static uint32_t (*const replay_type)(const uint64_t *, size_t, const uint8_t *, size_t, uint16_t *, size_t, uint64_t *, size_t, uint64_t *) = r8_replay;
+static uint32_t (*const replay_type)(const uint64_t *, size_t, const uint8_t *, size_t, uint16_t *, size_t, uint64_t *, size_t, uint64_t *) =
+    r8_replay;
 static uint32_t (*const trace_type)(const uint8_t *, size_t, uint64_t *, size_t, uint64_t *, size_t) = r8_trace;
 static uint32_t (*const form_type)(uint16_t, uint16_t *, size_t) = r8_form;
 static uint32_t (*const run_type)(uint16_t *, size_t, uint32_t *, size_t, uint32_t, uint16_t *, size_t, uint64_t *, size_t) = r8_run;
@@ -73,7 +74,8 @@ static void lend_list(const uint64_t *list, size_t numbers) {
 
 static void replay_plays(void) {
     const uint64_t list[][R8_CALL] = {{R8_LOAD, 2, 2 + PROGRAM}, {R8_RUN, 10, 0}, {R8_VIEW, 0, 0}, {R8_RUN, 100, 0}, {R8_VIEW, 0, 0},
-                                      {R8_STEP, 0, 0}, {R8_RESET, 0, 0}, {R8_LOAD, 2 + PROGRAM, 2 + PROGRAM + FAULTY}, {R8_STEP, 0, 0}, {R8_RUN, 1, 0}};
+                                      {R8_STEP, 0, 0}, {R8_RESET, 0, 0}, {R8_LOAD, 2 + PROGRAM, 2 + PROGRAM + FAULTY},
+                                      {R8_STEP, 0, 0}, {R8_RUN, 1, 0}};
     lend_list(list[0], sizeof list / sizeof **list);
     CHECK(NAMED_r8_replay == R8_OK);
     CHECK(place[0] == 10 && marked(place, 1, ROOM));
