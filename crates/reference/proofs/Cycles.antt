@@ -9,6 +9,7 @@ use lib.Dec.{lit<, leb}
 use lib.ListN.{set}
 use lib.Seq.{set-getD}
 use borrow.Author.Tests.{le-ltb}
+use Rattle.words.specs.Arithmetic.{conjunction, disjunction, exclusive}
 use Rattle.isa.specs.Fields as isa
 use Rattle.isa.specs.Fields.{fieldT, fieldA, fieldB}
 use Rattle.isa.specs.Control.{secondRegister}
@@ -228,7 +229,7 @@ module _ (c : Core) (M : List ℕ) (room : c .clock .0 < 4294967295) where
       (ap (λ (x : Kind). fourOn 4 x t) n ∙ kept t (ends c M) refl) (row o t a b (t / 4) ho ht ha hb refl)
 
 pub cycles-exactly : CyclesExactly
-unfolding table costOf
+unfolding table costOf conjunction disjunction exclusive
 cycles-exactly c M room ra rb t a b u q ht ha hb hu hq =
     let hk : k a b < 65536 = omega arith in
     let f = c .flags in

@@ -12,6 +12,7 @@ use borrow.Author.Tests.{le-ltb, ne-eqb}
 use Rattle.words.specs.Memory.{wordAt}
 use Rattle.refusals.specs.Refusals.{wrongLength}
 use Rattle.refusals.proofs.First.{passed, none-left}
+use Rattle.words.specs.Arithmetic.{conjunction, disjunction, exclusive}
 use Rattle.isa.specs.Fields as isa
 use Rattle.isa.specs.Fields.{fieldT, fieldA, fieldB}
 use Rattle.isa.specs.Cost.{countOf, jumpClass, costOf}
@@ -168,7 +169,7 @@ pub difference-said : (p q : ℕ) → p < 65536 → q < 65536 → alu.subtracted
 difference-said p q hp hq = ap (λ (x : Bool). all (p ⊖ q) (leb q p) x) (difference-overflows p q hp hq)
 
 pub instructions-exactly : InstructionsExactly
-unfolding table costOf
+unfolding table costOf conjunction disjunction exclusive
 instructions-exactly c M least most going due room words t a b u q ht ha hb hu hq =
     let ra : R c M a < 65536 = words a in
     let rb : R c M b < 65536 = words b in

@@ -4,9 +4,8 @@ use mathlib.Core.Path.{_≡_}
 use mathlib.Core.Bool.{Bool, true, false, cond}
 use mathlib.Core.List.{List}
 use Prim.Native.Nat.{ℕ, _+_, _-_, _*_, _/_, _%_, _≤_, _<_}
+use lib.Bits.{bitAnd, bitOr, bitXor}
 use lib.ListN.{set, getD}
-use Rattle.words.specs.Memory.{wordAt}
-use Rattle.words.specs.Arithmetic.{conjunction, disjunction, exclusive}
 use Rattle.alu.specs.declared.Outcome.{Outcome}
 use Rattle.effects.specs.Hidden.{withIr, withRaRb, withRalu}
 use Rattle.effects.specs.declared.Stop.{Stop}
@@ -66,7 +65,7 @@ module _ (c : Core) (M : List ℕ) where
   R i = getD (c .regs) i 0
 
   abbrev pub at : ℕ → ℕ
-  at x = wordAt M x
+  at x = getD M x 0
 
   abbrev pub PC : ℕ
   PC = c .pc
@@ -123,9 +122,9 @@ module _ (c : Core) (M : List ℕ) where
     pub fetch : c .due ≡ 1 → cycleOrIdle M c ≡ due 2 ▹ setIR (at PC) ▹ setPC (PC ⊕ 1)
     pub ADD : Row (word 0x0 t a b) (latch a b) (alu (added RA RB)) (back t)
     pub SUB : Row (word 0x1 t a b) (latch a b) (alu (subtracted RA RB)) (back t)
-    pub AND : Row (word 0x2 t a b) (latch a b) (nz (conjunction RA RB)) (back t)
-    pub OR : Row (word 0x3 t a b) (latch a b) (nz (disjunction RA RB)) (back t)
-    pub XOR : Row (word 0x4 t a b) (latch a b) (nz (exclusive RA RB)) (back t)
+    pub AND : Row (word 0x2 t a b) (latch a b) (nz (bitAnd RA RB)) (back t)
+    pub OR : Row (word 0x3 t a b) (latch a b) (nz (bitOr RA RB)) (back t)
+    pub XOR : Row (word 0x4 t a b) (latch a b) (nz (bitXor RA RB)) (back t)
     pub ADDI : Row (word 0x5 t a b) (latch a t) (alu (added RB (k a b))) (back t)
     pub SUBI : Row (word 0x6 t a b) (latch a t) (alu (subtracted RB (k a b))) (back t)
     pub LDL : Row (word 0x7 t a b) (latch a t) (value (RB / 256 * 256 + k a b)) (back t)

@@ -4,9 +4,8 @@ use mathlib.Core.Path.{_≡_}
 use mathlib.Core.Bool.{Bool, cond}
 use mathlib.Core.List.{List}
 use Prim.Native.Nat.{ℕ, _+_, _-_, _*_, _/_, _%_, _≤_, _<_}
+use lib.Bits.{bitAnd, bitOr, bitXor}
 use lib.ListN.{length, set, getD}
-use Rattle.words.specs.Memory.{wordAt, stored}
-use Rattle.words.specs.Arithmetic.{conjunction, disjunction, exclusive}
 use Rattle.alu.specs.declared.Outcome.{Outcome}
 use Rattle.effects.specs.declared.Stop.the-variants.{Going, Halted, Undefined}
 use Rattle.core.specs.Cores.{withRegs, withPc, withSp, withFlags}
@@ -22,7 +21,8 @@ infixl 20 _▹_
 abbrev pub _▹_ : Reply → (Reply → Reply) → Reply
 s ▹ change = change s
 
--- 'Rt takes ..' a result with its flags, 'PC takes ..', 'SP takes ..', 'M(x) takes ..': all else stays (`CoreParts` of `core`)
+-- 'Rt takes ..' a result with its flags, 'PC takes ..', 'SP takes ..', 'M(x) takes ..': all else stays. `set` changes one place of a list,
+-- and none at or past its end: 'a write there is lost'
 abbrev pub setR : ℕ → Outcome → Reply → Reply
 setR t x s =
     record {
@@ -38,7 +38,7 @@ abbrev pub setSP : ℕ → Reply → Reply
 setSP x s = record { answer = s .answer; core = withSp x (s .core); memory = s .memory }
 
 abbrev pub setM : ℕ → ℕ → Reply → Reply
-setM x v s = record { answer = s .answer; core = s .core; memory = stored (s .memory) x v }
+setM x v s = record { answer = s .answer; core = s .core; memory = set (s .memory) x v }
 
 module _ (c : Core) (M : List ℕ) where
   -- what a step of n cycles gives: one instruction finished, and cycle 1 due. Only the clock and PC have moved, and the hidden registers
@@ -65,12 +65,13 @@ module _ (c : Core) (M : List ℕ) where
   abbrev pub next : ℕ → Reply
   next n = ending n Going B
 
-  -- what the rows speak of, as it is before the instruction: Ri, M(x), and PC 'already one past the instruction'
+  -- what the rows speak of, as it is before the instruction: Ri, M(x), which 'reads 0000' at or past L, and PC 'already one past the
+  -- instruction'
   abbrev pub R : ℕ → ℕ
   R i = getD (c .regs) i 0
 
   abbrev pub at : ℕ → ℕ
-  at x = wordAt M x
+  at x = getD M x 0
 
   abbrev pub PC : ℕ
   PC = c .pc ⊕ 1
@@ -95,15 +96,15 @@ module _ (c : Core) (M : List ℕ) where
   -- where the word w is at PC, a step gives s
   infix 10 _⟹_
   abbrev pub _⟹_ : ℕ → Reply → Type 0
-  w ⟹ s = wordAt M (c .pc) ≡ w → step c M ≡ s
+  w ⟹ s = getD M (c .pc) 0 ≡ w → step c M ≡ s
 
   -- for all digits t, a, b; u is bits 9-8 of D and E, and q bits 11-10 of D
   pub record Table (t a b u q : ℕ) : Type 0 where
     pub ADD : word 0x0 t a b ⟹ next 4 ▹ setR t (added (R a) (R b))
     pub SUB : word 0x1 t a b ⟹ next 4 ▹ setR t (subtracted (R a) (R b))
-    pub AND : word 0x2 t a b ⟹ next 4 ▹ setR t (nz (conjunction (R a) (R b)))
-    pub OR : word 0x3 t a b ⟹ next 4 ▹ setR t (nz (disjunction (R a) (R b)))
-    pub XOR : word 0x4 t a b ⟹ next 4 ▹ setR t (nz (exclusive (R a) (R b)))
+    pub AND : word 0x2 t a b ⟹ next 4 ▹ setR t (nz (bitAnd (R a) (R b)))
+    pub OR : word 0x3 t a b ⟹ next 4 ▹ setR t (nz (bitOr (R a) (R b)))
+    pub XOR : word 0x4 t a b ⟹ next 4 ▹ setR t (nz (bitXor (R a) (R b)))
     pub ADDI : word 0x5 t a b ⟹ next 4 ▹ setR t (added (R t) (k a b))
     pub SUBI : word 0x6 t a b ⟹ next 4 ▹ setR t (subtracted (R t) (k a b))
     pub LDL : word 0x7 t a b ⟹ next 4 ▹ setR t (silent (R t / 256 * 256 + k a b))
