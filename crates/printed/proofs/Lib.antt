@@ -1,2 +1,3 @@
--- Laws for the code of `printed`.
+-- The theorems of `printed`, and laws for its code.
+pub mod Fits
 pub mod Lines

@@ -51,11 +51,14 @@ line-more (suc n) rows =
     ∙ rw (drop-drop (4 * n) 4 rows, next) (sym (append-assoc (rowText rows) (linesText n (drop 4 rows)) _))
 
 -- what is written where this is answered
-pub found-text : (listing rows : List ℕ) {answer : TraceAnswer} (known : TraceAnswer) → traceGave answer rows ≡ traced listing (replicate 2000 0)
-    → answer ≡ known → findingText (findingOf known) rows ≡ printedTrace listing
+pub put-found : (page : Page) (listing rows : List ℕ) {after : Page} {answer : TraceAnswer} (known : TraceAnswer)
+    → after ≡ putOn page (findingText (findingOf known) rows) → traceGave answer rows ≡ traced listing (replicate 2000 0) → answer ≡ known
+    → after ≡ putOn page (printedTrace listing)
 unfolding printedTrace
-found-text listing rows known e a =
-    sym (ap (λ (x : TraceAnswer). findingText (findingOf x) rows) a) ∙ ap (λ (t : Trace). findingText (t .finding) (t .rows)) e
+put-found page listing rows known put e a =
+    put
+    ∙ sym (ap (λ (x : TraceAnswer). putOn page (findingText (findingOf x) rows)) a)
+    ∙ ap (λ (t : Trace). putOn page (findingText (t .finding) (t .rows))) e
 
 -- no more bytes are answered than the page has
 pub count-within : (page text : List ℕ) {after : List ℕ} {count : ℕ} → pageAt after count ≡ putOn (pageAt page 0) text → count ≤ length after

@@ -1,2 +1,3 @@
--- What the programs write.
+-- What the program r8trace writes, and the theorems about it.
 pub mod Printed
+pub mod Theorems

@@ -140,27 +140,29 @@ module _ (listing rows : List ℕ) (h : length listing ≤ 65536) (reply : LoadR
 
 -- a finding is one of these: too long, a fault of the lines, or what a run on the loaded memory finds, without room or with
 module _ (P : Finding → Type 0) (listing rows : List ℕ) (long : P tooLong)
-    (at-line : (number offset : ℕ) → P (answered (refusedAt number offset)))
+    (at-line : (number offset : ℕ) → length listing ≤ 65536
+    → listingAnswer listing (length (replicate {A = ℕ} 16384 0)) ≡ lines-answer.refused number offset → P (answered (refusedAt number offset)))
     (without : (memory : List ℕ) → length memory ≡ 16384 → length rows < 4 * instructionsOf (run 1000 freshCore memory .answer) → P noRoom)
-    (within : (memory : List ℕ) → 4 * instructionsOf (run 1000 freshCore memory .answer) ≤ length rows
+    (within : (memory : List ℕ) → length memory ≡ 16384 → 4 * instructionsOf (run 1000 freshCore memory .answer) ≤ length rows
     → P (answered (run 1000 freshCore memory .answer))) where
   by-room : (memory : List ℕ) (lacks : Bool) → ltb (length rows) (4 * instructionsOf (run 1000 freshCore memory .answer)) ≡ lacks
       → length memory ≡ 16384 → P (tracedOn memory rows .finding)
   unfolding tracedOn
   by-room memory true h size = rw h (without memory size (ltb-true _ _ h))
-  by-room memory false h size = rw h (within memory (ltb-false _ _ h))
+  by-room memory false h size = rw h (within memory size (ltb-false _ _ h))
 
-  by-lines : (answer : lines-answer.Answer) (memory : List ℕ) → length memory ≡ 16384
+  by-lines : (answer : lines-answer.Answer) (memory : List ℕ) → length listing ≤ 65536
+      → listingAnswer listing (length (replicate {A = ℕ} 16384 0)) ≡ answer → length memory ≡ 16384
       → P (afterLoad (record { answer = loadAnswer answer; core = freshCore; memory = memory }) rows .finding)
-  by-lines (lines-answer.stored count) memory size = by-room memory _ refl size
-  by-lines (lines-answer.refused number offset) memory size = at-line number offset
+  by-lines (lines-answer.stored count) memory short e size = by-room memory _ refl size
+  by-lines (lines-answer.refused number offset) memory short e size = at-line number offset short e
 
   by-length : (b : Bool) → ltb 65536 (length listing) ≡ b → P (traced listing rows .finding)
   unfolding traced
   by-length true h = rw h long
   by-length false h =
       rw (h, load-taken listing) (by-lines (listingAnswer listing (length (replicate {A = ℕ} 16384 0)))
-      (listingMemory listing (replicate 16384 0)) (length-loaded listing (replicate 16384 0) ∙ length-replicate {A = ℕ} 16384 0))
+      (listingMemory listing (replicate 16384 0)) (ltb-false 65536 (length listing) h) refl (length-loaded listing (replicate 16384 0) ∙ length-replicate {A = ℕ} 16384 0))
 
   pub by-cases : P (traced listing rows .finding)
   by-cases = by-length (ltb 65536 (length listing)) refl
@@ -171,8 +173,8 @@ pub room-held : (listing rows next : List ℕ) (answer : TraceAnswer) (cycles : 
 room-held listing rows next answer cycles instructions end e a =
     by-cases (λ f. f ≡ answered (ran (cycles .0) (instructions .0) end) → 4 * instructions .0 ≤ length rows) listing rows
     (λ f. absurd (let z : _≡_ {A = ℕ} 0 1 = cc in omega arith))
-    (λ number offset f. absurd (let z : _≡_ {A = ℕ} 0 1 = cc in omega arith))
+    (λ number offset short said f. absurd (let z : _≡_ {A = ℕ} 0 1 = cc in omega arith))
     (λ memory size h f. absurd (let z : _≡_ {A = ℕ} 0 1 = cc in omega arith))
-    (λ memory h f. let same : run 1000 freshCore memory .answer ≡ ran (cycles .0) (instructions .0) end = cc in
+    (λ memory size h f. let same : run 1000 freshCore memory .answer ≡ ran (cycles .0) (instructions .0) end = cc in
     omega (arith, h, ap instructionsOf same))
     (sym (ap (λ (t : Trace). t .finding) e) ∙ ap findingOf a)

@@ -64,6 +64,6 @@ pub room-always : RoomAlways
 room-always listing rows long =
     by-cases (λ f. f ≡ noRoom → ⊥) listing rows
     (λ f. let z : _≡_ {A = ℕ} 0 1 = cc in omega arith)
-    (λ number offset f. let z : _≡_ {A = ℕ} 0 1 = cc in omega arith)
+    (λ number offset short said f. let z : _≡_ {A = ℕ} 0 1 = cc in omega arith)
     (λ memory size h f. omega (arith, long, h, few-instructions memory size))
-    (λ memory h f. let z : _≡_ {A = ℕ} 0 1 = cc in omega arith)
+    (λ memory size h f. let z : _≡_ {A = ℕ} 0 1 = cc in omega arith)

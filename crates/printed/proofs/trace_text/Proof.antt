@@ -1,13 +1,12 @@
 -- `printed::trace_text` meets its contract: by what the trace found. Assumes nothing.
-use mathlib.Core.Path.{ap, _∙_}
-use mathlib.Core.List.{List}
+use mathlib.Core.Path.{refl}
 use Prim.Native.Nat.{ℕ}
 use native.Mathlib.Omega.{arith}
 use lib.ListN.{replicate, length-replicate}
 use borrow.Author.Needs.{needs}
 use Rattle.output.specs.Page.{putOn}
 use Rattle.trace.proofs.Findings.{room-held}
-use Rattle.printed.proofs.Lines.{found-text}
+use Rattle.printed.proofs.Lines.{put-found}
 use Rattle.printed.proofs.trace_text.Statement.{statement}
 use Rattle.printed.proofs.trace_text.Tie as tie
 
@@ -21,26 +20,26 @@ returns : tie.Need-returns
 returns c =
     let traced = c .before .before .before .before .before .before .before .before .before .trace in
     let told = c .before .before .before .before .before .before .answer .given in
-    c .before .before .put-trace .ensures ∙ ap (putOn _) (found-text _ _ _ (traced .ensures) (told .1))
+    put-found _ _ _ _ (c .before .before .put-trace .ensures) (traced .ensures) (told .1)
 
 returns-2 : tie.Need-returns-2
 returns-2 c =
     let traced = c .before .before .before .before .before .before .before .before .trace in
     let told = c .before .before .before .before .before .answer2 .given in
-    c .before .before .put-refusal .ensures ∙ ap (putOn _) (found-text _ _ _ (traced .ensures) (told .1))
+    put-found _ _ _ _ (c .before .before .put-refusal .ensures) (traced .ensures) (told .1)
 
 returns-3 : tie.Need-returns-3
 returns-3 c =
     let traced = c .before .before .before .before .before .before .before .before .trace in
     let told = c .before .before .before .before .before .enum-told .given in
-    c .before .before .put .ensures ∙ ap (putOn _) (found-text _ _ _ (traced .ensures) (told .1))
+    put-found _ _ _ _ (c .before .before .put .ensures) (traced .ensures) (told .1)
 
 returns-4 : tie.Need-returns-4
 unfolding putOn
 returns-4 c =
     let traced = c .before .before .before .trace in
     let told = c .enum-told2 .given in
-    ap (putOn _) (found-text _ _ _ (traced .ensures) (told .1))
+    put-found _ _ _ _ refl (traced .ensures) (told .1)
 
 pub trace-text-spec : {M : Type 1} → statement M
 trace-text-spec =
