@@ -11,12 +11,15 @@ use Rattle.listing as listing
 use Rattle.core as core
 use Rattle.text as text
 use Rattle.layout as layout
+use Rattle.reference as reference
 use Rattle.plays as plays
 use Rattle.machine as machine
 use Rattle.replay as replay
 use Rattle.script as script
 use Rattle.trace as trace
 use Rattle.r8 as r8
+use Rattle.output as output
+use Rattle.printed as printed
 
 -- words
 pub words-and-bits : words.specs.Theorems.AndBits
@@ -27,6 +30,9 @@ words-or-bits = words.proofs.Theorems.or-bits
 
 pub words-xor-bits : words.specs.Theorems.XorBits
 words-xor-bits = words.proofs.Theorems.xor-bits
+
+pub words-memory-exactly : words.specs.Theorems.MemoryExactly
+words-memory-exactly = words.proofs.Theorems.memory-exactly
 
 -- refusals
 pub refusals-length-exactly : refusals.specs.Theorems.LengthExactly
@@ -68,6 +74,9 @@ pub effects-stack-exactly : effects.specs.Theorems.StackExactly
 effects-stack-exactly = effects.proofs.Theorems.stack-exactly
 
 -- forms
+pub forms-form-means : forms.specs.Theorems.FormMeans
+forms-form-means = forms.proofs.Means.form-means
+
 pub forms-form-word-form : forms.specs.Theorems.FormWordForm
 forms-form-word-form = forms.proofs.Theorems.form-word-form
 
@@ -82,6 +91,9 @@ forms-refused-word = forms.proofs.Theorems.refused-word
 
 pub forms-refused-form : forms.specs.Theorems.RefusedForm
 forms-refused-form = forms.proofs.Theorems.refused-form
+
+pub forms-forms-apart : forms.specs.Theorems.FormsApart
+forms-forms-apart = forms.proofs.Apart.forms-apart
 
 -- hex
 pub hex-digit-exactly : hex.specs.Theorems.DigitExactly
@@ -106,11 +118,20 @@ lines-entry-exactly = lines.proofs.Grammar.entry-exactly
 pub lines-blank-exactly : lines.specs.Theorems.BlankExactly
 lines-blank-exactly = lines.proofs.Grammar.blank-exactly
 
+pub lines-lines-apart : lines.specs.Theorems.LinesApart
+lines-lines-apart = lines.proofs.Said.lines-apart
+
+pub lines-said-exactly : lines.specs.Theorems.SaidExactly
+lines-said-exactly = lines.proofs.Said.said-exactly
+
 pub lines-find-first : lines.specs.Theorems.FindFirst
 lines-find-first = lines.proofs.Theorems.find-first
 
 pub lines-comment-exactly : lines.specs.Theorems.CommentExactly
 lines-comment-exactly = lines.proofs.Theorems.comment-exactly
+
+pub lines-comment-bytes : lines.specs.Theorems.CommentBytes
+lines-comment-bytes = lines.proofs.CommentBytes.comment-bytes
 
 pub lines-word-read-back : lines.specs.Theorems.WordReadBack
 lines-word-read-back = lines.proofs.ReadBack.word-read-back
@@ -196,6 +217,18 @@ text-letters-apart = text.proofs.Apart.letters-apart
 pub text-flags-apart : text.specs.Theorems.FlagsApart
 text-flags-apart = text.proofs.Apart.flags-apart
 
+pub text-decimal-back : text.specs.Theorems.DecimalBack
+text-decimal-back = text.proofs.Digits.decimal-back
+
+pub text-decimal-digits : text.specs.Theorems.DecimalDigits
+text-decimal-digits = text.proofs.Digits.decimal-digits
+
+pub text-no-leading-zero : text.specs.Theorems.NoLeadingZero
+text-no-leading-zero = text.proofs.Digits.no-leading-zero
+
+pub text-decimal-at-most : text.specs.Theorems.DecimalAtMost
+text-decimal-at-most = text.proofs.Digits.decimal-at-most
+
 -- layout
 pub layout-answer-size : layout.specs.Theorems.AnswerSize
 layout-answer-size = layout.proofs.Theorems.answer-size
@@ -208,6 +241,22 @@ layout-left-apart = layout.proofs.Theorems.left-apart
 
 pub layout-places : layout.specs.Theorems.Places
 layout-places = layout.proofs.Theorems.places
+
+-- reference
+pub reference-cycles-exactly : reference.specs.Cycles.CyclesExactly
+reference-cycles-exactly = reference.proofs.Cycles.cycles-exactly
+
+pub reference-instructions-exactly : reference.specs.Instructions.InstructionsExactly
+reference-instructions-exactly = reference.proofs.Instructions.instructions-exactly
+
+pub reference-every-word : reference.specs.Instructions.EveryWord
+reference-every-word = reference.proofs.Instructions.every-word
+
+pub reference-fresh-exactly : reference.specs.Theorems.FreshExactly
+reference-fresh-exactly = reference.proofs.Theorems.fresh-exactly
+
+pub reference-unused-ignored : reference.specs.Theorems.UnusedIgnored
+reference-unused-ignored = reference.proofs.Theorems.unused-ignored
 
 -- plays
 pub plays-play-exactly : plays.specs.Theorems.PlayExactly
@@ -280,3 +329,29 @@ r8-call-after-call = r8.proofs.Theorems.call-after-call
 
 pub r8-run-in-pieces : r8.specs.Theorems.RunInPieces
 r8-run-in-pieces = r8.proofs.Theorems.run-in-pieces
+
+pub r8-codes-apart : r8.specs.Theorems.CodesApart
+r8-codes-apart = r8.proofs.Apart.codes-apart
+
+pub r8-replay-apart : r8.specs.Theorems.ReplayApart
+r8-replay-apart = r8.proofs.Apart.replay-apart
+
+pub r8-call-codes : r8.specs.Theorems.CallCodes
+r8-call-codes = r8.proofs.Exactly.call-codes
+
+pub r8-form-codes : r8.specs.Theorems.FormCodes
+r8-form-codes = r8.proofs.Exactly.form-codes
+
+pub r8-trace-codes : r8.specs.Theorems.TraceCodes
+r8-trace-codes = r8.proofs.Exactly.trace-codes
+
+-- output
+pub output-put-whole : output.specs.Theorems.PutWhole
+output-put-whole = output.proofs.Stores.put-whole
+
+-- printed
+pub printed-text-fits : printed.specs.Theorems.TextFits
+printed-text-fits = printed.proofs.Fits.text-fits
+
+pub printed-page-holds : printed.specs.Theorems.PageHolds
+printed-page-holds = printed.proofs.Fits.page-holds
