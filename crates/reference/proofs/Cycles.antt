@@ -281,6 +281,5 @@ cycles-exactly c M room ra rb t a b u q ht ha hb hu hq =
       JMPCD = short 0xE a b u 2 (f .c) (lit< tt) ha hb hu (lit< tt) (λ r. r);
       JMPVD = short 0xE a b u 3 (f .v) (lit< tt) ha hb hu (lit< tt) (λ r. r);
       JSRD = calculating _ _ _ _ _ (ap (λ (x : ℕ). plain f (PC c M ⊕ x)) (fields.long 0xF t a b (lit< tt) ht ha hb)) (still _ t _ _ _ refl (row 0xF t a b (t / 4) (lit< tt) ht ha hb refl));
-      undefined-B = λ l. none 0xB t a b (lit< tt) ht ha hb (rw (le-ltb b 11 l));
-      undefined-C = λ l. none 0xC t a b (lit< tt) ht ha hb (rw (le-ltb b 12 l));
+      undefined = λ o n. none o t a b (fields.digit-o o b n) ht ha hb (fields.no-kind o b (t / 4) n);
     }

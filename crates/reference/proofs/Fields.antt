@@ -1,15 +1,17 @@
 -- The fields of a word with the digits o, t, a, b, and the kind that the table gives it.
 use mathlib.Core.Path.{_≡_, refl, ap, _∙_}
+use mathlib.Core.Logic.{inl, inr}
 use mathlib.Core.Bool.{cond}
 use Prim.Native.Nat.{ℕ, _+_, _*_, _/_, _%_, _<_}
 use native.Mathlib.Omega.{arith}
 use lib.Dec.{ltb, eqb}
 use lib.ListN.{getD}
+use borrow.Author.Tests.{le-ltb}
 use Rattle.isa.specs.Fields as isa
 use Rattle.isa.specs.declared.Kind.{Kind}
 use Rattle.isa.specs.declared.Kind.the-variants.{Undefined}
 use Rattle.table.specs.Table.{table, placeOf, kindOf}
-use Rattle.reference.specs.Notation.{word, k, d10, d12}
+use Rattle.reference.specs.Notation.{word, NoInstruction, k, d10, d12}
 
 -- the kind by the fields that it goes by; at digits it computes
 abbrev pub kindBy : ℕ → ℕ → ℕ → Kind
@@ -56,3 +58,13 @@ pub short : (o u q a b : ℕ) → u < 4 → a < 16 → b < 16 → isa.d10 (word 
 unfolding word
 short o u q a b hu ha hb =
     let e : word o (q * 4 + u) a b % 1024 ≡ u * 0x100 + a * 0x10 + b = omega arith in ap (isa.extended 512) e
+
+-- the words that are of no kind
+pub digit-o : (o b : ℕ) → NoInstruction o b → o < 16
+digit-o o b (inl n) = omega (arith, n .0)
+digit-o o b (inr n) = omega (arith, n .0)
+
+pub no-kind : (o b q : ℕ) → NoInstruction o b → kindBy o b q ≡ Undefined
+unfolding table
+no-kind o b q (inl n) = rw (n .0, le-ltb b 11 (n .1))
+no-kind o b q (inr n) = rw (n .0, le-ltb b 12 (n .1))

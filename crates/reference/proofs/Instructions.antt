@@ -224,8 +224,7 @@ instructions-exactly c M least most going due room words t a b u q ht ha hb hu h
       JMPCD = short 0xE a b u 2 (f .c) (lit< tt) ha hb hu (lit< tt) refl;
       JMPVD = short 0xE a b u 3 (f .v) (lit< tt) ha hb hu (lit< tt) refl;
       JSRD = long c M least most going due room t a b ht ha hb;
-      undefined-B = λ l. none 0xB t a b (lit< tt) ht ha hb (rw (le-ltb b 11 l));
-      undefined-C = λ l. none 0xC t a b (lit< tt) ht ha hb (rw (le-ltb b 12 l));
+      undefined = λ o n. none o t a b (fields.digit-o o b n) ht ha hb (fields.no-kind o b (t / 4) n);
     }
 
 pub every-word : EveryWord

@@ -3,7 +3,7 @@
 use mathlib.Core.Path.{_≡_}
 use mathlib.Core.Bool.{Bool, true, false, cond}
 use mathlib.Core.List.{List}
-use Prim.Native.Nat.{ℕ, _+_, _-_, _*_, _/_, _%_, _≤_, _<_}
+use Prim.Native.Nat.{ℕ, _+_, _-_, _*_, _/_, _%_, _<_}
 use lib.Bits.{bitAnd, bitOr, bitXor}
 use lib.ListN.{set, getD}
 use Rattle.alu.specs.declared.Outcome.{Outcome}
@@ -15,7 +15,7 @@ use Rattle.core.specs.Cores.{withRegs, withPc, withSp, withFlags, withHidden, w
 use Rattle.core.specs.Datapath.{cycleOrIdle}
 use Rattle.core.specs.declared.Core.{Core}
 use Rattle.core.specs.declared.Transition.{Transition}
-use Rattle.reference.specs.Notation.{word, k, d10, d12, _⊕_, _⊖_, added, subtracted, NZ, plain}
+use Rattle.reference.specs.Notation.{word, NoInstruction, k, d10, d12, _⊕_, _⊖_, added, subtracted, NZ, plain}
 
 infixl 20 _▹_
 -- one change after the other
@@ -160,9 +160,7 @@ module _ (c : Core) (M : List ℕ) where
     pub JMPCD : Row (word 0xE (0x8 + u) a b) (latch a b) (aim (c .flags .c) (PC ⊕ d10 u a b)) (jump (c .flags .c))
     pub JMPVD : Row (word 0xE (0xC + u) a b) (latch a b) (aim (c .flags .v) (PC ⊕ d10 u a b)) (jump (c .flags .v))
     pub JSRD : Row (word 0xF t a b) (latch a b) (value (PC ⊕ d12 t a b)) call
-    -- 'HALT or undefined: stop'
-    pub undefined-B : 0xB ≤ b → Row (word 0xB t a b) (ends ▹ setStop Undefined) ends ends
-    pub undefined-C : 0xC ≤ b → Row (word 0xC t a b) (ends ▹ setStop Undefined) ends ends
+    pub undefined : (o : ℕ) → NoInstruction o b → Row (word o t a b) (ends ▹ setStop Undefined) ends ends
 
 -- the page: of every core whose clock has room for a cycle, also one that is stopped, on every memory (proved as `cycles-exactly`)
 abbrev pub CyclesExactly : Type 0

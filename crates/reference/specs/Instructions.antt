@@ -14,7 +14,7 @@ use Rattle.core.specs.declared.Core.{Core}
 use Rattle.core.specs.declared.End.{End}
 use Rattle.core.specs.declared.End.the-variants.{H, U, B}
 use Rattle.effects.specs.declared.Stop.{Stop}
-use Rattle.reference.specs.Notation.{word, k, d10, d12, _⊕_, _⊖_, added, subtracted, NZ, plain}
+use Rattle.reference.specs.Notation.{word, NoInstruction, k, d10, d12, _⊕_, _⊖_, added, subtracted, NZ, plain}
 
 infixl 20 _▹_
 -- one change after the other
@@ -140,9 +140,7 @@ module _ (c : Core) (M : List ℕ) where
     pub JMPCD : word 0xE (0x8 + u) a b ⟹ jump (c .flags .c) (PC ⊕ d10 u a b)
     pub JMPVD : word 0xE (0xC + u) a b ⟹ jump (c .flags .v) (PC ⊕ d10 u a b)
     pub JSRD : word 0xF t a b ⟹ call (PC ⊕ d12 t a b)
-    -- 'B with b from B to F and C with b from C to F are undefined'
-    pub undefined-B : 0xB ≤ b → word 0xB t a b ⟹ ending 2 Undefined U
-    pub undefined-C : 0xC ≤ b → word 0xC t a b ⟹ ending 2 Undefined U
+    pub undefined : (o : ℕ) → NoInstruction o b → word o t a b ⟹ ending 2 Undefined U
 
 -- the page: on every memory of 1 to 65,536 words and every core of words that a step takes (proved as `instructions-exactly`)
 abbrev pub InstructionsExactly : Type 0

@@ -1,6 +1,8 @@
 -- How the two pages write words, numbers and results: document 01's letters, and its paragraph on flags.
+use mathlib.Core.Path.{_≡_}
+use mathlib.Core.Logic.{_⊎_}
 use mathlib.Core.Bool.{Bool, cond, _||_}
-use Prim.Native.Nat.{ℕ, _+_, _-_, _*_, _/_, _%_}
+use Prim.Native.Nat.{ℕ, _+_, _-_, _*_, _%_, _≤_}
 use lib.Dec.{ltb, leb, eqb}
 use lib.IntN.{ℤ, pos, negℤ, subℕ, _+ℤ_, _-ℤ_}
 use lib.Signed.{ltZ}
@@ -10,6 +12,10 @@ use Rattle.alu.specs.declared.Outcome.{Outcome}
 -- the word with the digits o, t, a, b
 unfoldable pub word : ℕ → ℕ → ℕ → ℕ → ℕ
 word o t a b = o * 0x1000 + t * 0x100 + a * 0x10 + b
+
+-- 'B with b from B to F and C with b from C to F are undefined'
+abbrev pub NoInstruction : ℕ → ℕ → Type 0
+NoInstruction o b = ((o ≡ 0xB) × (0xB ≤ b)) ⊎ ((o ≡ 0xC) × (0xC ≤ b))
 
 -- 'k = bits 7-0 without sign', of the digits a and b
 abbrev pub k : ℕ → ℕ → ℕ
