@@ -5,7 +5,7 @@ use Prim.Native.Nat.{ℕ}
 use native.Mathlib.Omega.{arith}
 use lib.ListN.{replicate}
 use Rattle.lines.specs.Lines.{space, readLine}
-use Rattle.lines.specs.Answers.{Said, skipped, entry, refused, lineSays, saidBy}
+use Rattle.lines.specs.Answers.{Said, skipped, entry, refused, lineSays}
 use Rattle.lines.specs.Theorems.{EntryLine, LinesApart, SaidExactly}
 use Rattle.lines.specs.declared.Line.{Line}
 use Rattle.lines.specs.declared.Line.the-variants.{Blank, Entry, IllFormed}

@@ -7,7 +7,7 @@ use native.Mathlib.Omega.{arith}
 use lib.Dec.{ltb}
 use lib.ListN.{length, drop, getD, replicate}
 use lib.Seq.{drop-drop, getD-drop}
-use Rattle.hex.specs.Digits.{hexDigit, wordText}
+use Rattle.hex.specs.Digits.{wordText}
 use Rattle.isa.specs.declared.Flags.{Flags}
 use Rattle.text.specs.Text.{flagsText, lineText}
 use Rattle.layout.specs.Layout.{flagsOf}

@@ -1,14 +1,13 @@
 -- The page of the cycles: each goes by the kind and the fields of the word in IR.
 use mathlib.Core.Path.{_≡_, refl, sym, ap, _∙_}
-use mathlib.Core.Bool.{Bool, true, false, cond}
+use mathlib.Core.Bool.{Bool, true, false}
 use mathlib.Core.List.{List}
-use Prim.Native.Nat.{ℕ, _+_, _*_, _/_, _%_, _≤_, _<_}
+use Prim.Native.Nat.{ℕ, _+_, _*_, _/_, _%_, _<_}
 use native.Mathlib.Omega.{arith}
 use native.Mathlib.Nat.{zero-add, add-zero}
 use lib.Dec.{lit<, leb}
 use lib.ListN.{set}
 use lib.Seq.{set-getD}
-use borrow.Author.Tests.{le-ltb}
 use Rattle.words.specs.Arithmetic.{conjunction, disjunction, exclusive}
 use Rattle.isa.specs.Fields as isa
 use Rattle.isa.specs.Fields.{fieldT, fieldA, fieldB}
@@ -33,8 +32,8 @@ use Rattle.core.specs.Datapath.{fetched, second, withResult, third, withEffect,
 use Rattle.core.specs.declared.Core.{Core}
 use Rattle.core.specs.declared.Transition.{Transition}
 use Rattle.core.proofs.Cycles.{within-clock, first-cycle, later, second-cycle, third-cycle, fourth-cycle}
-use Rattle.reference.specs.Notation.{word, k, d10, d12, _⊕_, added, subtracted, NZ, plain}
-use Rattle.reference.specs.Cycles.{setRALU, setStop, due, ends, R, PC, RA, RB, latch, alu, nz, value, aim, back, jump, call, Row, Cycles, CyclesExactly}
+use Rattle.reference.specs.Notation.{word, k, d10, _⊕_, added, subtracted, NZ, plain}
+use Rattle.reference.specs.Cycles.{setStop, due, ends, R, PC, RA, RB, latch, alu, aim, jump, Row, CyclesExactly}
 use Rattle.reference.proofs.Fields as fields
 use Rattle.reference.proofs.Fields.{kindBy}
 use Rattle.reference.proofs.Instructions.{sum-said, difference-said}

@@ -1,6 +1,6 @@
 -- The page of the instructions: a step goes by the kind and the fields of the word at PC.
 use mathlib.Core.Path.{_≡_, refl, sym, ap, _∙_}
-use mathlib.Core.Bool.{Bool, true, false, not, cond}
+use mathlib.Core.Bool.{Bool, true, false, not}
 use mathlib.Core.List.{List}
 use Prim.Native.Nat.{ℕ, _+_, _*_, _/_, _%_, _≤_, _<_}
 use native.Mathlib.Omega.{arith}
@@ -31,13 +31,13 @@ use Rattle.core.specs.Cores.{withRegs}
 use Rattle.core.specs.Spent.{dueOne}
 use Rattle.core.specs.Instruction.{after, memoryAfter, takes, stepTransition}
 use Rattle.core.specs.Numbers.{clockFull, runNumber}
-use Rattle.core.specs.Calls.{ran, endOf, Reply, steppedReply, step}
+use Rattle.core.specs.Calls.{ran, endOf, Reply, step}
 use Rattle.core.specs.declared.Core.{Core}
 use Rattle.core.specs.declared.End.the-variants.{U}
 use Rattle.core.proofs.Spent.{one-when-due}
 use Rattle.core.proofs.Replies.{step-starts}
 use Rattle.reference.specs.Notation.{word, k, d10, d12, _⊕_, _⊖_, all, added, subtracted, NZ, plain}
-use Rattle.reference.specs.Instructions.{setR, next, ending, R, PC, SP, jump, call, _⟹_, Table, InstructionsExactly, EveryWord}
+use Rattle.reference.specs.Instructions.{setR, next, ending, R, PC, SP, jump, call, _⟹_, InstructionsExactly, EveryWord}
 use Rattle.reference.proofs.Fields as fields
 use Rattle.reference.proofs.Fields.{kindBy}
 use Rattle.reference.proofs.Overflow.{sum-overflows, difference-overflows}

@@ -10,7 +10,6 @@ use Rattle.words.specs.Arithmetic.{sum}
 use Rattle.isa.specs.Fields.{fieldT, fieldA, fieldB, bits11to10, d10, extended}
 use Rattle.isa.specs.Control.{taken}
 use Rattle.isa.specs.Cost.{costOf}
-use Rattle.isa.specs.declared.Condition.{Condition}
 use Rattle.isa.specs.declared.Condition.the-variants.{Always, Negative, Zero, Carry, Overflow}
 use Rattle.isa.specs.declared.Kind.{Kind}
 use Rattle.isa.specs.declared.Kind.the-variants.{Undefined, Binary, Constant, Ld, St, Unary, Nop, Halt, Ldsp, Rts, Pop, Push, Jump, Call}

@@ -1,14 +1,14 @@
 -- `printed::put_lines` meets its contract: a line more for each row. Assumes nothing.
-use mathlib.Core.Path.{_≡_, refl, ap, _∙_}
-use mathlib.Core.List.{List, _++_}
-use Prim.Native.Nat.{ℕ, _-_, _*_, _≤_}
+use mathlib.Core.Path.{_≡_, refl}
+use mathlib.Core.List.{List}
+use Prim.Native.Nat.{ℕ, _-_, _≤_}
 use native.Mathlib.Numerals.{add-one}
 use native.Mathlib.Omega.{arith}
 use borrow.Author.Needs.{needs}
-use lib.ListN.{length, drop}
+use lib.ListN.{length}
 use Rattle.output.specs.Page.{pageAt, putOn}
 use Rattle.output.proofs.Stores.{put-both}
-use Rattle.printed.specs.Printed.{rowText, linesText}
+use Rattle.printed.specs.Printed.{linesText}
 use Rattle.printed.proofs.Lines.{line-more}
 use Rattle.printed.proofs.put_lines.Statement.{statement}
 use Rattle.printed.proofs.put_lines.Tie as tie

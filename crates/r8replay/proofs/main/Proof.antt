@@ -1,7 +1,6 @@
 -- `r8replay::main` meets its contract: the page is lent whole. Assumes nothing.
 use mathlib.Core.Path.{sym, _∙_}
 use Prim.Native.Nat.{ℕ}
-use native.Mathlib.Omega.{arith}
 use lib.ListN.{length-replicate}
 use borrow.Author.Needs.{needs}
 use Rattle.r8replay.proofs.main.Statement.{statement}
