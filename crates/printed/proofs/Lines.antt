@@ -1,4 +1,4 @@
--- Laws of the lines of a trace.
+-- Laws of the lines of a trace, and the theorem of specs/Theorems.antt on the steps that they are of.
 use mathlib.Core.Path.{_≡_, refl, sym, ap, subst, _∙_}
 use mathlib.Core.Bool.{cond}
 use mathlib.Core.List.{List, [], _∷_, _++_, append-assoc}
@@ -7,15 +7,19 @@ use native.Mathlib.Omega.{arith}
 use lib.Dec.{ltb}
 use lib.ListN.{length, drop, getD, replicate}
 use lib.Seq.{drop-drop, getD-drop}
-use Rattle.hex.specs.Digits.{wordText}
+use Rattle.words.specs.Memory.{wordAt}
+use Rattle.hex.specs.Digits.{hexDigit, wordText}
 use Rattle.isa.specs.declared.Flags.{Flags}
+use Rattle.core.specs.Calls.{step}
 use Rattle.text.specs.Text.{flagsText, lineText}
 use Rattle.layout.specs.Layout.{flagsOf}
-use Rattle.trace.specs.Trace.{Trace, traced, findingOf, traceGave}
+use Rattle.layout.proofs.Back.{flags-back}
+use Rattle.trace.specs.Trace.{Trace, cyclesOf, rowsOf, traced, findingOf, traceGave}
 use Rattle.trace.specs.declared.TraceAnswer.{TraceAnswer}
 use Rattle.output.specs.Page.{Page, pageAt, putOn}
 use Rattle.output.proofs.Stores.{put-within}
 use Rattle.printed.specs.Printed.{rowText, linesText, findingText, printedTrace}
+use Rattle.printed.specs.Theorems.{stepsText, LinesOfSteps}
 
 -- a line has the last four digits of a word, and the last one of the cycles
 word-same : (n : ℕ) → wordText (n % 65536) ≡ wordText n
@@ -49,6 +53,14 @@ line-more (suc n) rows =
     let next : 4 + 4 * n ≡ 4 * suc n = omega arith in
     ap (λ (l : List ℕ). rowText rows ++ l) (line-more n (drop 4 rows))
     ∙ rw (drop-drop (4 * n) 4 rows, next) (sym (append-assoc (rowText rows) (linesText n (drop 4 rows)) _))
+
+pub lines-of-steps : LinesOfSteps
+unfolding linesText rowsOf stepsText
+lines-of-steps zero core memory rest = refl
+lines-of-steps (suc n) core memory rest =
+    let stepped = step core memory in
+    λ j. lineText (core .pc) (wordAt memory (core .pc)) (cyclesOf (stepped .answer)) (flags-back (stepped .core .flags) j)
+    ++ lines-of-steps n (stepped .core) (stepped .memory) rest j
 
 -- what is written where this is answered
 pub put-found : (page : Page) (listing rows : List ℕ) {after : Page} {answer : TraceAnswer} (known : TraceAnswer)
