@@ -350,6 +350,9 @@ pub output-put-whole : output.specs.Theorems.PutWhole
 output-put-whole = output.proofs.Stores.put-whole
 
 -- printed
+pub printed-lines-of-steps : printed.specs.Theorems.LinesOfSteps
+printed-lines-of-steps = printed.proofs.Lines.lines-of-steps
+
 pub printed-text-fits : printed.specs.Theorems.TextFits
 printed-text-fits = printed.proofs.Fits.text-fits
 
