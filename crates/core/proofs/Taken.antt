@@ -1,5 +1,5 @@
 -- The theorems `RunTaken`, `StepTaken` and `OthersTaken` of specs/TheoremsOfCalls.antt: where no number applies the reply is the call's own. And
--- `CycleExactly`: by the clock and the cycle due.
+-- `CycleExactly`, `RunByCycles`: by the clock and the cycle due.
 use mathlib.Core.Path.{_≡_, refl, sym, ap, _∙_}
 use mathlib.Core.Logic.{_⊎_, inl, inr}
 use mathlib.Core.Bool.{Bool, true, false, not, cond}
@@ -9,6 +9,7 @@ use native.Mathlib.Omega.{arith}
 use native.Mathlib.Nat.{zero-add, add-zero}
 use borrow.Author.Tests.{eq-eqb, le-ltb, not-false}
 use lib.ListN.{length}
+use Rattle.words.specs.Arithmetic.{bit}
 use Rattle.refusals.specs.Refusals.{firstNumber}
 use Rattle.refusals.specs.Theorems.{NoneApplies}
 use Rattle.refusals.proofs.First.{none-found, none-applies}
@@ -21,8 +22,9 @@ use Rattle.core.specs.Datapath.{idle, dueCycle, cycleOrIdle}
 use Rattle.core.specs.Numbers.{isGoing, clockFull, loadNumber, runNumber, stepNumber, viewNumber}
 use Rattle.core.specs.Progress.{Progress, starting, afterCycle, cycleOn, cyclesOn, instructionOn}
 use Rattle.core.specs.Calls.{ran, viewed, endOf, Reply, unless, loadAnswer, loadedReply, viewedReply, ranReply, steppedReply, reset, load, view, run, step}
-use Rattle.core.specs.TheoremsOfCalls.{loadNumbers, runNumbers, stepNumbers, viewNumbers, RunTaken, CycleExactly, StepTaken, OthersTaken}
+use Rattle.core.specs.TheoremsOfCalls.{loadNumbers, runNumbers, stepNumbers, viewNumbers, RunTaken, CycleExactly, StepTaken, OthersTaken, Letter, RunByCycles}
 use Rattle.core.specs.declared.Core.{Core}
+use Rattle.core.specs.declared.End.{End}
 use Rattle.core.specs.declared.Transition.{Transition}
 use Rattle.core.proofs.Spent.{due-when-one, range-when-one}
 use Rattle.core.proofs.Cycles.{later, no-cycle-due, within-clock, full-clock, one-more, no-cycle, only-going, cost-range}
@@ -82,16 +84,34 @@ none-done core memory (inr out) =
     by false = refl
 
 pub cycle-exactly : CycleExactly
+cycle-exactly core memory = (λ room. within-clock memory core room, λ out. none-done core memory out)
+
+-- the reply of a run that comes to p
+run-comes : (b : ℕ) (core : Core) (memory : List ℕ) (p : Progress) (n : ℕ) → p .finished ≡ n → run b core memory ≡ ranReply p
+    → (run b core memory .core ≡ p .core)
+    × (run b core memory .memory ≡ p .memory)
+    × ((end : End) × (run b core memory .answer ≡ ran (p .used) n end) × Letter end (p .core))
+run-comes b core memory p n f e = (
+  ap (λ (r : Reply). r .core) e,
+  ap (λ (r : Reply). r .memory) e,
+  (
+    endOf (p .core .stop) (dueOne (p .core)),
+    ap (λ (r : Reply). r .answer) e ∙ ap (λ (x : ℕ). ran (p .used) x (endOf (p .core .stop) (dueOne (p .core)))) f,
+    letter (p .core),
+  ),
+)
+
+pub run-by-cycles : RunByCycles
 unfolding cycleOn
-cycle-exactly core memory = (
-  λ room. within-clock memory core room,
-  λ taken. let number = no-run-number core memory 1 taken in
-      let r = ready _ _ _ _ _ number in
+run-by-cycles core memory = (
+  λ taken. run-comes 0 core memory (starting core memory) 0 refl
+      (run-own core memory 0 taken ∙ ap ranReply (no-cycle (starting core memory))),
+  λ taken. let r = ready _ _ _ _ _ (no-run-number core memory 1 taken) in
       let room = r .room in
-      run-own core memory 1 taken
+      run-comes 1 core memory (afterCycle (cycleOrIdle memory core) (starting core memory)) (bit (cycleOrIdle memory core .finished)) (zero-add _)
+      (run-own core memory 1 taken
       ∙ ap ranReply (one-more 0 (starting core memory) (r .going) ∙ no-cycle (cycleOn (starting core memory)))
-      ∙ ap (λ (t : Transition). ranReply (afterCycle t (starting core memory))) (sym (within-clock memory core (omega arith))),
-  λ out. none-done core memory out,
+      ∙ ap (λ (t : Transition). ranReply (afterCycle t (starting core memory))) (sym (within-clock memory core (omega arith)))),
 )
 
 -- a step asks for more than a run of its instruction's cost

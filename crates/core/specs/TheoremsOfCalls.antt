@@ -1,5 +1,5 @@
 -- What the calls come to, for every core and memory: when a call is refused, and that it then changes nothing; what it does where it is
--- taken; and that different answers are read differently, each by its own parts. Nine statements, proved in proofs/Refusals.antt, proofs/Taken.antt,
+-- taken; and that different answers are read differently, each by its own parts. Ten statements, proved in proofs/Refusals.antt, proofs/Taken.antt,
 -- proofs/Again.antt and proofs/Apart.antt.
 use mathlib.Core.Path.{_≡_}
 use mathlib.Core.Logic.{_↔_, _⊎_}
@@ -13,17 +13,19 @@ use Rattle.refusals.specs.declared.Refusal.{Refusal}
 use Rattle.listing.specs.Answers as listing
 use Rattle.listing.specs.Listing.{listingAnswer, listingMemory}
 use Rattle.listing.specs.declared.Fault.{Fault}
+use Rattle.words.specs.Arithmetic.{bit}
 use Rattle.isa.specs.declared.Cycles.{Cycles}
 use Rattle.effects.specs.declared.Stop.the-variants.{Going, Halted, Undefined}
 use Rattle.effects.specs.declared.Store.the-variants.{Nothing}
+use Rattle.effects.specs.Effect.{applied}
 use Rattle.effects.specs.Hidden.{noHidden}
 use Rattle.core.specs.Cores.{freshCore, withHidden, visibleOf}
 use Rattle.core.specs.Instruction.{takes}
-use Rattle.core.specs.Progress.{starting, afterCycle}
-use Rattle.core.specs.Calls.{Answer, done, stored, ran, viewed, refused, refusedAt, Reply, reset, load, view, ranReply, run, step}
+use Rattle.core.specs.Calls.{Answer, done, stored, ran, viewed, refused, refusedAt, Reply, reset, load, view, run, step}
 use Rattle.core.specs.Answers.{loadAnswerOf, runAnswerOf, viewAnswerOf, shown, resetGave, loadGave, runGave, viewGave}
 use Rattle.core.specs.Datapath.{dueCycle, cycleOrIdle}
 use Rattle.core.specs.declared.Core.{Core}
+use Rattle.core.specs.declared.Transition.{Transition}
 use Rattle.core.specs.declared.Instructions.{Instructions}
 use Rattle.core.specs.declared.End.{End}
 use Rattle.core.specs.declared.End.the-variants.{H, U, B, M}
@@ -140,15 +142,27 @@ RunAgain =
     × (whole .core ≡ second .core)
     × (whole .memory ≡ second .memory))
 
--- one cycle of any core, on any memory: it is the datapath's, of a stopped core too, where the clock has room; where a run of 1 is taken it is
--- what that does; a core whose clock is full, or whose cycle due is none of 1 to 4, is handed back as it is, with nothing finished or stored
--- (proved as `cycle-exactly`)
+-- a run of no cycle changes nothing; a run of one does what the call `cycle` does, with its store made, and counts the cycle, and the
+-- instruction where it is finished. By `RunAgain` every run is made of these (proved as `run-by-cycles`)
+abbrev pub RunByCycles : Type 0
+RunByCycles =
+    (core : Core) (memory : List ℕ)
+    → let t : Transition = cycleOrIdle memory core in
+    (NoneApplies (runNumbers 0 core memory)
+    → (run 0 core memory .core ≡ core)
+    × (run 0 core memory .memory ≡ memory)
+    × ((end : End) × (run 0 core memory .answer ≡ ran 0 0 end) × Letter end core))
+    × (NoneApplies (runNumbers 1 core memory)
+    → (run 1 core memory .core ≡ t .core)
+    × (run 1 core memory .memory ≡ applied (t .store) memory)
+    × ((end : End) × (run 1 core memory .answer ≡ ran 1 (bit (t .finished)) end) × Letter end (t .core)))
+
+-- one cycle of any core, on any memory: it is the datapath's, of a stopped core too, where the clock has room; a core whose clock is full, or
+-- whose cycle due is none of 1 to 4, is handed back as it is, with nothing finished or stored (proved as `cycle-exactly`)
 abbrev pub CycleExactly : Type 0
 CycleExactly =
     (core : Core) (memory : List ℕ)
     → (core .clock .0 < 4294967295 → cycleOrIdle memory core ≡ dueCycle memory core)
-    × (NoneApplies (runNumbers 1 core memory)
-    → run 1 core memory ≡ ranReply (afterCycle (cycleOrIdle memory core) (starting core memory)))
     × ((4294967295 ≤ core .clock .0) ⊎ ((core .due < 1) ⊎ (4 < core .due))
     → cycleOrIdle memory core ≡ record { core = core; finished = false; store = Nothing })
 

@@ -49,15 +49,20 @@ module _ (o t a b : ℕ) (ho : o < 16) (ht : t < 16) (ha : a < 16) (hb : b < 16)
       let eq : isa.bits11to10 w ≡ q = omega (arith, e) in
       λ j. kindBy (eo j) (field-b j) (eq j)
 
-  pub long : isa.d12 (word o t a b) ≡ d12 t a b
+  pub bits12 : word o t a b % 4096 ≡ t * 0x100 + a * 0x10 + b
   unfolding word
-  long = let e : word o t a b % 4096 ≡ t * 0x100 + a * 0x10 + b = omega arith in ap (isa.extended 2048) e
+  bits12 = omega arith
+
+  pub long : isa.d12 (word o t a b) ≡ d12 t a b
+  long = ap (isa.extended 2048) bits12
 
 -- bits 9-0 of a word whose digit t is bits 11-10 and 9-8
-pub short : (o u q a b : ℕ) → u < 4 → a < 16 → b < 16 → isa.d10 (word o (q * 4 + u) a b) ≡ d10 u a b
+pub bits10 : (o u q a b : ℕ) → u < 4 → a < 16 → b < 16 → word o (q * 4 + u) a b % 1024 ≡ u * 0x100 + a * 0x10 + b
 unfolding word
-short o u q a b hu ha hb =
-    let e : word o (q * 4 + u) a b % 1024 ≡ u * 0x100 + a * 0x10 + b = omega arith in ap (isa.extended 512) e
+bits10 o u q a b hu ha hb = omega arith
+
+pub short : (o u q a b : ℕ) → u < 4 → a < 16 → b < 16 → isa.d10 (word o (q * 4 + u) a b) ≡ d10 u a b
+short o u q a b hu ha hb = ap (isa.extended 512) (bits10 o u q a b hu ha hb)
 
 -- the words that are of no kind
 pub digit-o : (o b : ℕ) → NoInstruction o b → o < 16

@@ -3,4 +3,5 @@ pub mod Fields
 pub mod Overflow
 pub mod Instructions
 pub mod Cycles
+pub mod Forms
 pub mod Theorems

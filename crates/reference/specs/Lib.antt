@@ -2,4 +2,5 @@
 pub mod Notation
 pub mod Instructions
 pub mod Cycles
+pub mod Forms
 pub mod Theorems

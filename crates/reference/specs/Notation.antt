@@ -28,6 +28,13 @@ d10 u a b = let d : ℕ = u * 0x100 + a * 0x10 + b in cond (ltb d 0x200) d (d + 
 abbrev pub d12 : ℕ → ℕ → ℕ → ℕ
 d12 t a b = let d : ℕ = t * 0x100 + a * 0x10 + b in cond (ltb d 0x800) d (d + 0xF000)
 
+-- and as signed numbers, as forms have them
+abbrev pub s10 : ℕ → ℕ → ℕ → ℤ
+s10 u a b = let d : ℕ = u * 0x100 + a * 0x10 + b in cond (ltb d 0x200) (pos d) (subℕ d 0x400)
+
+abbrev pub s12 : ℕ → ℕ → ℕ → ℤ
+s12 t a b = let d : ℕ = t * 0x100 + a * 0x10 + b in cond (ltb d 0x800) (pos d) (subℕ d 0x1000)
+
 infix 40 _⊕_
 infix 40 _⊖_
 -- 'every sum and difference of words is taken modulo 65,536'
@@ -48,7 +55,8 @@ outside z = ltZ z (negℤ (pos 32768)) || ltZ (pos 32767) z
 abbrev pub all : ℕ → Bool → Bool → Outcome
 all r carry overflow = record { value = r; flags = record { n = leb 0x8000 r; z = eqb r 0; c = carry; v = overflow } }
 
--- C of a sum is that it is 65,536 or more, C of a difference that q is at most p; V is that the signed result is out of range
+-- C of a sum is that it is 65,536 or more, C of a difference that q is at most p; V is that the signed result is out of range. (Document 01
+-- has V by the bits 15; that this is the same is proved.)
 abbrev pub added : ℕ → ℕ → Outcome
 added p q = all (p ⊕ q) (leb 0x10000 (p + q)) (outside (signed p +ℤ signed q))
 
