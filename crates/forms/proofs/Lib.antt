@@ -4,4 +4,4 @@ mod Displacement
 mod Faults
 pub mod Theorems
 pub mod Means
-pub mod Apart
+pub mod Read

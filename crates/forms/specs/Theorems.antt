@@ -1,5 +1,5 @@
 -- Words and forms, over all fields at one go, and that different answers are read differently: seven statements, proved in
--- proofs/Theorems.antt, proofs/Means.antt and proofs/Apart.antt.
+-- proofs/Theorems.antt, proofs/Means.antt and proofs/Read.antt.
 use mathlib.Core.Path.{_≡_}
 use mathlib.Core.Logic.{_↔_}
 use mathlib.Core.Bool.{Bool, true, false, cond, _||_}
@@ -118,9 +118,11 @@ outOfRange (Form.CallDisplaced d12) = noLong d12
 abbrev pub RefusedForm : Type 0
 RefusedForm = (f : Form) (n : ℕ) → (formToWord f ≡ refused n) ↔ ((outOfRange f ≡ true) × (n ≡ 5))
 
--- 'this paper's number and values for each of its cases': different answers are read differently, of word to form and of form to word
--- (proved as `forms-apart`)
-abbrev pub FormsApart : Type 0
-FormsApart =
-    ((x y : FormAnswer) → formAnswer x ≡ formAnswer y → x ≡ y)
-    × ((x y : WordAnswer) → wordAnswer x ≡ wordAnswer y → x ≡ y)
+-- 'this paper's number and values for each of its cases': an answer of either conversion is read as what it holds, or as 6 or 5 (proved as
+-- `forms-read`)
+abbrev pub FormsRead : Type 0
+FormsRead =
+    ((form : Form) → formAnswer (FormAnswer.Read form) ≡ given form)
+    × (formAnswer FormAnswer.Undefined ≡ refused 6)
+    × ((word : ℕ) → wordAnswer (WordAnswer.Written word) ≡ given word)
+    × (wordAnswer WordAnswer.OutOfRange ≡ refused 5)

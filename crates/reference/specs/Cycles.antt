@@ -1,5 +1,6 @@
--- Document 01, 'Datapath cycles', as one page: for each instruction what cycles 2, 3 and 4 give, whole, of every core that has the cycle due and the
--- word with these digits in IR, a core that no call made too. One statement, proved in proofs/Cycles.antt.
+-- Document 01, 'Datapath cycles', as one page: what the call `cycle` gives, whole, in cycle 1, and in cycles 2, 3 and 4 for each instruction, of every
+-- core that has the cycle due and the word with these digits in IR, a core that no call made too. How run is made of cycles is said by
+-- `RunByCycles` and `RunAgain` of `core`. One statement, proved in proofs/Cycles.antt.
 use mathlib.Core.Path.{_≡_}
 use mathlib.Core.Bool.{Bool, true, false, cond}
 use mathlib.Core.List.{List}

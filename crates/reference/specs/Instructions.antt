@@ -1,5 +1,5 @@
--- Document 01, 'Instruction table', as one page: for each instruction what a step gives, whole, where the word at PC has these digits. Two
--- statements, proved in proofs/Instructions.antt.
+-- Document 01, 'Instruction table', as one page: for each instruction what the call `step` gives, whole, where the word at PC has these digits. A
+-- run of as many cycles gives the same but for the hidden registers (`StepTaken` of `core`). Two statements, proved in proofs/Instructions.antt.
 use mathlib.Core.Path.{_≡_}
 use mathlib.Core.Bool.{Bool, cond}
 use mathlib.Core.List.{List}
@@ -151,7 +151,7 @@ InstructionsExactly =
     → c .stop ≡ Going
     → c .due ≡ 1
     → c .clock .0 + 4 ≤ 4294967295
-    → ((i : ℕ) → R c M i < 65536)
+    → ((i : ℕ) → getD (c .regs) i 0 < 65536)
     → (t a b u q : ℕ) → t < 16 → a < 16 → b < 16 → u < 4 → q < 4 → Table c M t a b u q
 
 -- no word is left out: each is written with four digits, and the digit t of D and E with q and u (proved as `every-word`)

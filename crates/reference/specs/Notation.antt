@@ -1,4 +1,4 @@
--- How the two pages write words, numbers and results: document 01's letters, and its paragraph on flags.
+-- How the pages write words, numbers and results: document 01's letters, and its paragraph on flags.
 use mathlib.Core.Path.{_≡_}
 use mathlib.Core.Logic.{_⊎_}
 use mathlib.Core.Bool.{Bool, cond, _||_}

@@ -1,2 +1,2 @@
-// Document 01's instruction table and cycle list, each said a second time as one page: specs/Instructions.antt and specs/Cycles.antt. There is
-// no code.
+// Document 01's instruction table and cycle list, each said a second time as one page, and the forms of words: specs/Instructions.antt,
+// specs/Cycles.antt and specs/Forms.antt. There is no code.

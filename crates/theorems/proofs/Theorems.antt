@@ -92,8 +92,8 @@ forms-refused-word = forms.proofs.Theorems.refused-word
 pub forms-refused-form : forms.specs.Theorems.RefusedForm
 forms-refused-form = forms.proofs.Theorems.refused-form
 
-pub forms-forms-apart : forms.specs.Theorems.FormsApart
-forms-forms-apart = forms.proofs.Apart.forms-apart
+pub forms-forms-read : forms.specs.Theorems.FormsRead
+forms-forms-read = forms.proofs.Read.forms-read
 
 -- hex
 pub hex-digit-exactly : hex.specs.Theorems.DigitExactly
@@ -195,6 +195,9 @@ core-run-taken = core.proofs.Taken.run-taken
 pub core-run-again : core.specs.TheoremsOfCalls.RunAgain
 core-run-again = core.proofs.Again.run-again
 
+pub core-run-by-cycles : core.specs.TheoremsOfCalls.RunByCycles
+core-run-by-cycles = core.proofs.Taken.run-by-cycles
+
 pub core-cycle-exactly : core.specs.TheoremsOfCalls.CycleExactly
 core-cycle-exactly = core.proofs.Taken.cycle-exactly
 
@@ -229,6 +232,9 @@ text-no-leading-zero = text.proofs.Digits.no-leading-zero
 pub text-decimal-at-most : text.specs.Theorems.DecimalAtMost
 text-decimal-at-most = text.proofs.Digits.decimal-at-most
 
+pub text-as-shown : text.specs.Theorems.AsShown
+text-as-shown = text.proofs.Shown.as-shown
+
 -- layout
 pub layout-answer-size : layout.specs.Theorems.AnswerSize
 layout-answer-size = layout.proofs.Theorems.answer-size
@@ -245,6 +251,9 @@ layout-places = layout.proofs.Theorems.places
 -- reference
 pub reference-cycles-exactly : reference.specs.Cycles.CyclesExactly
 reference-cycles-exactly = reference.proofs.Cycles.cycles-exactly
+
+pub reference-forms-exactly : reference.specs.Forms.FormsExactly
+reference-forms-exactly = reference.proofs.Forms.forms-exactly
 
 pub reference-instructions-exactly : reference.specs.Instructions.InstructionsExactly
 reference-instructions-exactly = reference.proofs.Instructions.instructions-exactly
