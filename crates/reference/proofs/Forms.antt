@@ -3,8 +3,6 @@ use mathlib.Core.Path.{_≡_, refl, sym, ap, _∙_}
 use Prim.Native.Nat.{ℕ, _+_, _*_, _/_, _%_, _<_}
 use native.Mathlib.Omega.{arith}
 use lib.Dec.{lit<}
-use lib.IntN.{ℤ}
-use Rattle.isa.specs.declared.Kind.{Kind}
 use Rattle.table.specs.Table.{table, kindOf}
 use Rattle.forms.specs.Theorems.{withSign}
 use Rattle.forms.proofs.Means.{form-means}
