@@ -1,8 +1,8 @@
 /* The R8 simulator for other languages: link libr8.a (`rt staticlib r8` writes target/staticlib/libr8.a).
  *
  * A slice is passed as a pointer and a count of elements. A null pointer is allowed where the count is 0; at is never null. What a function
- * can write (a slice without const, and *at) may overlap nothing else that it is given. 'Number' means a refusal's number of document 01:
- * README has the table. */
+ * can write (a slice without const, and *at) may overlap nothing else that it is given. 'Number 1' and the like mean a refusal's number of
+ * document 01: README has the table. */
 #ifndef R8_H
 #define R8_H
 #include <stddef.h>
@@ -74,8 +74,8 @@ uint32_t r8_form(uint16_t word, uint16_t *form, size_t form_count);
 
 /* One run of b cycles, or one step, of a core given as numbers, also one that no call made. registers has 22 words: R0 to R15, PC, SP, IR,
  * RA, RB, RALU. state has four numbers: 8N+4Z+2C+V, stop state, cycle due (0 to 255), clock. Both become the next core's, and the answer
- * is written to the first 23 numbers of answer; what is past them stays. Returns R8_OK (a cycle due outside 1 to 4 is answered R8_REFUSED,
- * 7); or, the first that applies,
+ * is written to the first 23 numbers of answer; what is past them stays. Returns R8_OK, also where the answer is R8_REFUSED
+ * (number 7, for a cycle due outside 1 to 4 or, of a step, not 1, comes after 1 and 8); or, the first that applies,
  *   R8_NO_CORE: registers are not 22, state is not four, or state has flags above 15, a stop state above 2 or a cycle due above 255;
  *   R8_NO_ROOM: answer is shorter than 23. */
 #define R8_REGISTERS 22

@@ -1,6 +1,6 @@
 // Takes all 65,536 words to forms and back, and prints how many are defined, undefined, written
 // back unchanged, and refused by form to word. Then prints one word of each of the 40 instructions
-// with the name and the operands that its form has; t, a and b differ in each.
+// with the name and the operands that its form has; the registers that a form has differ.
 ghost use Prim.Native.Nat.{_≤_};
 use forms::Form;
 use forms::FormAnswer;

@@ -142,7 +142,7 @@ RunAgain =
     × (whole .core ≡ second .core)
     × (whole .memory ≡ second .memory))
 
--- a run of no cycle changes nothing; a run of one does what the call `cycle` does, with its store made, and counts the cycle, and the
+-- a run of no cycle changes nothing; a run of one does what the method `cycle` does, with its store made, and counts the cycle, and the
 -- instruction where it is finished. By `RunAgain` every run is made of these (proved as `run-by-cycles`)
 abbrev pub RunByCycles : Type 0
 RunByCycles =

@@ -1,5 +1,5 @@
--- Words and forms, over all fields at one go, and that different answers are read differently: seven statements, proved in
--- proofs/Theorems.antt, proofs/Means.antt and proofs/Read.antt.
+-- Words and forms, over all fields at one go, and what answers are read as: seven statements, proved in proofs/Theorems.antt,
+-- proofs/Means.antt and proofs/Read.antt.
 use mathlib.Core.Path.{_≡_}
 use mathlib.Core.Logic.{_↔_}
 use mathlib.Core.Bool.{Bool, true, false, cond, _||_}
@@ -44,7 +44,7 @@ Means (Form.CallAbsolute a) w = (kindOf w ≡ Call Absolute) × (a ≡ fieldA w)
 Means (Form.JumpDisplaced condition d10) w = (kindOf w ≡ Jump condition Displaced) × (d10 ≡ withSign 512 (w % 1024))
 Means (Form.CallDisplaced d12) w = (kindOf w ≡ Call Displaced) × (d12 ≡ withSign 2048 (w % 4096))
 
--- a word has a form exactly where the form says so of it (proved as `form-means`)
+-- a form is a word's form exactly where it means that word (proved as `form-means`)
 abbrev pub FormMeans : Type 0
 FormMeans = (w : ℕ) (f : Form) → (wordToForm w ≡ given f) ↔ Means f w
 

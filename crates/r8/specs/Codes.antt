@@ -11,7 +11,8 @@ pub data Code : Type 0 where
   tooLong : Code
 
 -- 0: done; 6: document 01's 'word undefined', as itself; from 100 on this interface's own, past that document's numbers: a slice that would be
--- written is too short; numbers are no core's; a call is none of the five; a load names no stretch of the text; a listing is too long
+-- written is too short; numbers are no core's; three numbers are no call, or fewer are left; a load names no stretch of the text; a listing is
+-- too long
 abbrev pub codeNumber : Code → ℕ
 codeNumber ok = 0
 codeNumber undefined = 6

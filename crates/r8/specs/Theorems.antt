@@ -1,5 +1,5 @@
--- Nothing is lost between a core and its numbers, so calls one after the other on the same slices are calls of one core; and what the functions
--- return says what it should. Ten statements, proved in proofs/Theorems.antt, proofs/Apart.antt and proofs/Exactly.antt.
+-- Nothing is lost between a core and its numbers, so calls one after the other on the same slices are calls of one core; and what codes say that
+-- the functions return. Ten statements, proved in proofs/Theorems.antt, proofs/Apart.antt and proofs/Exactly.antt.
 use mathlib.Core.Path.{_≡_}
 use mathlib.Core.Logic.{_↔_, _⊎_}
 use mathlib.Core.Bool.{true, false}

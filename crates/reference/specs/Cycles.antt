@@ -1,4 +1,4 @@
--- Document 01, 'Datapath cycles', as one page: what the call `cycle` gives, whole, in cycle 1, and in cycles 2, 3 and 4 for each instruction, of every
+-- Document 01, 'Datapath cycles', as one page: what the method `cycle` gives, whole, in cycle 1, and in cycles 2, 3 and 4 for each instruction, of every
 -- core that has the cycle due and the word with these digits in IR, a core that no call made too. How run is made of cycles is said by
 -- `RunByCycles` and `RunAgain` of `core`. One statement, proved in proofs/Cycles.antt.
 use mathlib.Core.Path.{_≡_}
@@ -61,7 +61,7 @@ module _ (c : Core) (M : List ℕ) where
   abbrev pub ends : Transition
   ends = record { core = withClock (c .clock .0 + 1) (withDue 1 c); finished = true; store = Nothing }
 
-  -- what the rows speak of, as it is before the cycle; PC is one past the instruction
+  -- what the rows speak of, as it is before the cycle; PC is one past the instruction from cycle 2 on
   abbrev pub R : ℕ → ℕ
   R i = getD (c .regs) i 0
 
@@ -163,7 +163,8 @@ module _ (c : Core) (M : List ℕ) where
     pub JSRD : Row (word 0xF t a b) (latch a b) (value (PC ⊕ d12 t a b)) call
     pub undefined : (o : ℕ) → NoInstruction o b → Row (word o t a b) (ends ▹ setStop Undefined) ends ends
 
--- the page: of every core whose clock has room for a cycle, also one that is stopped, on every memory (proved as `cycles-exactly`)
+-- the page: of every core whose clock has room for a cycle and whose RA and RB are words, also one that is stopped, on every memory (proved as
+-- `cycles-exactly`)
 abbrev pub CyclesExactly : Type 0
 CyclesExactly =
     (c : Core) (M : List ℕ) → c .clock .0 < 4294967295 → c .hidden .ra < 65536 → c .hidden .rb < 65536

@@ -41,8 +41,8 @@ abbrev pub setM : ℕ → ℕ → Reply → Reply
 setM x v s = record { answer = s .answer; core = s .core; memory = set (s .memory) x v }
 
 module _ (c : Core) (M : List ℕ) where
-  -- what a step of n cycles gives: one instruction finished, and cycle 1 due. Only the clock and PC have moved, and the hidden registers
-  -- are zero
+  -- what a step of n cycles gives: one instruction finished, and cycle 1 due. Only the clock and PC have moved, the hidden registers are
+  -- zero, and the stop state and the end letter are given: 'HALT and undefined only set the stop state'
   abbrev pub ending : ℕ → Stop → End → Reply
   ending n stop end =
       record {
@@ -61,7 +61,7 @@ module _ (c : Core) (M : List ℕ) where
         memory = M;
       }
 
-  -- the core goes on, or 'HALT and undefined only set the stop state'
+  -- the core goes on
   abbrev pub next : ℕ → Reply
   next n = ending n Going B
 
@@ -154,7 +154,8 @@ InstructionsExactly =
     → ((i : ℕ) → getD (c .regs) i 0 < 65536)
     → (t a b u q : ℕ) → t < 16 → a < 16 → b < 16 → u < 4 → q < 4 → Table c M t a b u q
 
--- no word is left out: each is written with four digits, and the digit t of D and E with q and u (proved as `every-word`)
+-- each word is written with four digits, and the digit t of D and E with q and u; that each o, and in B and C each b, has a row is seen on
+-- the page (proved as `every-word`)
 abbrev pub EveryWord : Type 0
 EveryWord =
     ((w : ℕ) → w < 65536 → w ≡ word (w / 4096) (w / 256 % 16) (w / 16 % 16) (w % 16))

@@ -1,4 +1,4 @@
--- What the pages leave to say: the fresh core, and fields that the table does not use. Two statements, proved in proofs/Theorems.antt.
+-- Beside the pages: the fresh core, and that unused fields are ignored, said by `unused`. Two statements, proved in proofs/Theorems.antt.
 use mathlib.Core.Path.{_≡_}
 use mathlib.Core.Bool.{false}
 use mathlib.Core.List.{List, [], _∷_}

@@ -6,7 +6,7 @@ use lib.Dec.{ltb}
 use lib.ListN.{length, replicate}
 use Rattle.text.specs.declared.Figure.{Figure}
 
--- the last digit: all of an instruction's cycles, which are 2 to 4
+-- the last digit of a number; an instruction's cycles, 2 to 4, have no other
 abbrev pub lastDigit : ℕ → ℕ
 lastDigit n = 48 + n % 10
 
