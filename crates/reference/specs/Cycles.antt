@@ -16,12 +16,7 @@ use Rattle.core.specs.Cores.{withRegs, withPc, withSp, withFlags, withHidden, w
 use Rattle.core.specs.Datapath.{cycleOrIdle}
 use Rattle.core.specs.declared.Core.{Core}
 use Rattle.core.specs.declared.Transition.{Transition}
-use Rattle.reference.specs.Notation.{word, NoInstruction, k, d10, d12, _⊕_, _⊖_, added, subtracted, NZ, plain}
-
-infixl 20 _▹_
--- one change after the other
-abbrev pub _▹_ : Transition → (Transition → Transition) → Transition
-s ▹ change = change s
+use Rattle.reference.specs.Notation.{word, NoInstruction, k, d10, d12, _⊕_, _⊖_, added, subtracted, NZ, plain, _▹_}
 
 -- what a cycle gives with another core, or with 'M(x) takes ..'
 abbrev pub on : (Core → Core) → Transition → Transition

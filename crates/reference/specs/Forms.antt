@@ -10,6 +10,7 @@ use Rattle.forms.specs.Reading.{wordToForm}
 use Rattle.forms.specs.declared.Form.{Form}
 use Rattle.reference.specs.Notation.{word, NoInstruction, k, s10, s12}
 
+-- the word w has this form
 infix 10 _is_
 abbrev pub _is_ : ℕ → Form → Type 0
 w is form = wordToForm w ≡ given form
@@ -58,6 +59,6 @@ pub record Forms (t a b u q : ℕ) : Type 0 where
   pub JSRD : word 0xF t a b is Form.CallDisplaced (s12 t a b)
   pub undefined : (o : ℕ) → NoInstruction o b → wordToForm (word o t a b) ≡ refused 6
 
--- (proved as `forms-exactly`)
+-- the page, for all digits (proved as `forms-exactly`)
 abbrev pub FormsExactly : Type 0
 FormsExactly = (t a b u q : ℕ) → t < 16 → a < 16 → b < 16 → u < 4 → q < 4 → Forms t a b u q

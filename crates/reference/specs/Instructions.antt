@@ -14,12 +14,7 @@ use Rattle.core.specs.declared.Core.{Core}
 use Rattle.core.specs.declared.End.{End}
 use Rattle.core.specs.declared.End.the-variants.{H, U, B}
 use Rattle.effects.specs.declared.Stop.{Stop}
-use Rattle.reference.specs.Notation.{word, NoInstruction, k, d10, d12, _⊕_, _⊖_, added, subtracted, NZ, plain}
-
-infixl 20 _▹_
--- one change after the other
-abbrev pub _▹_ : Reply → (Reply → Reply) → Reply
-s ▹ change = change s
+use Rattle.reference.specs.Notation.{word, NoInstruction, k, d10, d12, _⊕_, _⊖_, added, subtracted, NZ, plain, _▹_}
 
 -- 'Rt takes ..' a result with its flags, 'PC takes ..', 'SP takes ..', 'M(x) takes ..': all else stays. `set` changes one place of a list,
 -- and none at or past its end: 'a write there is lost'

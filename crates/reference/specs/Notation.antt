@@ -69,3 +69,8 @@ NZ f r = all r (f .c) (f .v)
 
 abbrev pub plain : Flags → ℕ → Outcome
 plain f r = record { value = r; flags = f }
+
+infixl 20 _▹_
+-- one change after the other
+abbrev pub _▹_ : {A : Type 0} → A → (A → A) → A
+x ▹ change = change x
