@@ -2,13 +2,14 @@
 ghost use mathlib.Core.Path.{_≡_};
 ghost use mathlib.Core.Bool.{true};
 ghost use Prim.Native.Nat.{_+_, _≤_, min};
-ghost use lib.Dec.{leb};
 ghost use lib.ListN.{length, drop};
 ghost use Rattle.hex.specs.Digits.{digitValue, Holds};
 ghost use Rattle.lines.specs.Lines.{find, firstLine, afterSpaces, ends, fourDigits, numberAt, entryFrom};
 ghost use Rattle.lines.specs.LineReader.{entryAtFront, entryLength, entryAlone, lineWith};
 ghost use Rattle.lines.specs.Answers.{refused, lineSays, saidBy};
 ghost use Rattle.lines.specs.Comment.{commentText, commentStart};
+
+mod search; // the place of a byte
 
 const LINE_FEED: u8 = 10;
 
@@ -30,49 +31,11 @@ pub struct Read {
     pub length: usize,
 }
 
-// Whether none of the eight bytes from a place on is b: all are compared, so that the compiler can compare them at once.
-fn none_of_eight(s: &[u8], i: usize, b: u8) -> bool
-    requires { ⌜ i + 8 ≤ length (now s) ⌝ }
-    ensures { λ r. ⌜ r ≡ leb 8 (find b (drop i (now (s .entry)))) ⌝ }
-{
-    let first = (s[i] != b) & (s[i + 1] != b) & (s[i + 2] != b) & (s[i + 3] != b);
-    let last = (s[i + 4] != b) & (s[i + 5] != b) & (s[i + 6] != b) & (s[i + 7] != b);
-    first & last
-}
-
-// A place that is not past the first byte b: eight bytes a turn.
-fn place_before(s: &[u8], b: u8) -> usize
-    ensures { λ r. ⌜ find b (now (s .entry)) ≡ r + find b (drop r (now (s .entry))) ⌝ }
-{
-    let mut i = 0;
-    while 8 <= s.len() - i {
-        if !none_of_eight(s, i, b) {
-            return i;
-        }
-        i += 8;
-    }
-    i
-}
-
-// The place of the first byte b, the length where there is none.
-fn place_of(s: &[u8], b: u8) -> usize
-    ensures { λ r. ⌜ r ≡ find b (now (s .entry)) ⌝ }
-{
-    let mut i = place_before(s, b);
-    while i < s.len() {
-        if s[i] == b {
-            return i;
-        }
-        i += 1;
-    }
-    i
-}
-
 // How many bytes the line at the front has, the LF not counted.
 pub fn line_length(rest: &[u8]) -> usize
     ensures { λ r. ⌜ r ≡ length (firstLine (now (rest .entry))) ⌝ }
 {
-    place_of(rest, LINE_FEED)
+    search::place_of(rest, LINE_FEED)
 }
 
 // What follows the spaces at the front.
@@ -267,6 +230,6 @@ pub fn comment(listing: &[u8], offset: usize) -> &[u8]
     ensures place { λ r. ⌜ (r .ptr .0 ≡ listing .entry .ptr .0) × (r .ptr .1 ≡ listing .entry .ptr .1 + commentStart (now (listing .entry)) offset) ⌝ }
 {
     let line = first_line(part_from(listing, offset));
-    let i = place_of(line, SEMICOLON);
+    let i = search::place_of(line, SEMICOLON);
     part_from(line, i + 1)
 }

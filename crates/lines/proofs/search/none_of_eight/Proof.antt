@@ -1,8 +1,8 @@
--- `lines::none_of_eight` meets its contract. Assumes nothing.
+-- `lines::search::none_of_eight` meets its contract. Assumes nothing.
 use borrow.Author.Needs.{needs}
 use Rattle.lines.proofs.Eights.{eight}
-use Rattle.lines.proofs.none_of_eight.Statement.{statement}
-use Rattle.lines.proofs.none_of_eight.Tie as tie
+use Rattle.lines.proofs.search.none_of_eight.Statement.{statement}
+use Rattle.lines.proofs.search.none_of_eight.Tie as tie
 
 returns : tie.Need-returns
 returns c =

@@ -1,4 +1,4 @@
--- `lines::place_of` meets its contract: what is left to look through shrinks by a byte a turn. Assumes nothing.
+-- `lines::search::place_of` meets its contract: what is left to look through shrinks by a byte a turn. Assumes nothing.
 use mathlib.Core.Path.{_≡_}
 use Prim.Native.Nat.{_≤_, _+_, _-_}
 use native.Mathlib.Omega.{arith}
@@ -6,8 +6,8 @@ use borrow.Author.Needs.{needs}
 use lib.ListN.{length, drop}
 use Rattle.lines.specs.Lines.{find}
 use Rattle.lines.proofs.Places.{find-le, find-here, find-further, find-nothing}
-use Rattle.lines.proofs.place_of.Statement.{statement}
-use Rattle.lines.proofs.place_of.Tie as tie
+use Rattle.lines.proofs.search.place_of.Statement.{statement}
+use Rattle.lines.proofs.search.place_of.Tie as tie
 
 abbrev Inv-loop : tie.InvT-loop
 Inv-loop s b i₀ i = (i ≤ length s) × (find b s ≡ i + find b (drop i s))

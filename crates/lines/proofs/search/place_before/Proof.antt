@@ -1,4 +1,4 @@
--- `lines::place_before` meets its contract: eight bytes passed are none of them b. Assumes nothing.
+-- `lines::search::place_before` meets its contract: eight bytes passed are none of them b. Assumes nothing.
 use mathlib.Core.Path.{_≡_, sym, ap, _∙_}
 use Prim.Native.Nat.{_≤_, _+_, _-_}
 use native.Mathlib.Omega.{arith}
@@ -8,8 +8,8 @@ use lib.ListN.{length, drop}
 use lib.Seq.{drop-drop}
 use Rattle.lines.specs.Lines.{find}
 use Rattle.lines.proofs.Eights.{find-over}
-use Rattle.lines.proofs.place_before.Statement.{statement}
-use Rattle.lines.proofs.place_before.Tie as tie
+use Rattle.lines.proofs.search.place_before.Statement.{statement}
+use Rattle.lines.proofs.search.place_before.Tie as tie
 
 abbrev Inv-loop : tie.InvT-loop
 Inv-loop s b i₀ i = (i ≤ length s) × (find b s ≡ i + find b (drop i s))
