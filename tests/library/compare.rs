@@ -398,7 +398,7 @@ fn compare_trace(listing: &[u8], more_rows: isize, more_answer: isize) -> Result
     })
 }
 
-/// f. The example of document 01, the limits, and random listings.
+/// f. The example of document 01, the limits, each byte at each place of a line, and random listings.
 fn traces(count: u64, seed: u64) -> Outcome {
     let example = b"0000 7105\n0001 8100\n0002 6105\n0003 B006\n";
     let faulty = b"0000 7105\n0001 810\n";
@@ -418,6 +418,13 @@ fn traces(count: u64, seed: u64) -> Outcome {
         (faulty, 2_000, -1),
     ] {
         compare_trace(listing, more_rows, more_answer)?;
+    }
+    for place in 0..9 {
+        for byte in 0..=255 {
+            let mut line = *b"0000 7105";
+            line[place] = byte;
+            compare_trace(&line, 0, 0)?;
+        }
     }
     every(count, seed, "listing", |rng| {
         let lines = if rng.one_in(40) {

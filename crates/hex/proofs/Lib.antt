@@ -1,3 +1,4 @@
--- Laws on tables of digit values.
+-- Laws on digit values, and the theorems.
 pub mod Values
+pub mod Former
 pub mod Theorems

@@ -1,32 +1,34 @@
--- The rule of a table of digit values, by one test that is computed over the whole table. Assumes nothing.
-use mathlib.Core.Path.{_≡_, ap, sym, _∙_}
-use mathlib.Core.Bool.{Bool, true, false, _&&_}
-use mathlib.Core.List.{List, [], _∷_}
-use Prim.Native.Nat.{ℕ, zero, suc, _+_, _<_}
-use native.Mathlib.Nat.{add-zero, zero-add, add-suc, suc-add, le-of-suc-le-suc, not-suc-le-zero}
+-- The value of a byte, range by range. Assumes nothing.
+use mathlib.Core.Path.{_≡_}
+use mathlib.Core.Logic.{_⊎_, inl, inr}
+use mathlib.Core.Bool.{true, false, and-false}
+use Prim.Native.Nat.{ℕ, _+_, _-_, _≤_, _<_}
 use native.Mathlib.Omega.{arith}
-use lib.Dec.{T, eqb, eqb→eq}
-use lib.ListN.{length, getD}
-use Rattle.hex.specs.Digits.{digitValue, Holds}
+use borrow.Author.Tests.{le-leb, lt-leb}
+use Rattle.hex.specs.Digits.{within, digitValue}
 
--- the list holds the values of the bytes from i on
-abbrev pub holds : ℕ → List ℕ → Bool
-holds i [] = true
-holds i (x ∷ xs) = eqb x (digitValue i) && holds (suc i) xs
+abbrev pub Outside : ℕ → ℕ → ℕ → Type 0
+Outside low high b = (b < low) ⊎ (high < b)
 
-both : (a b : Bool) → T (a && b) → T a × T b
-both true b t = (tt, t)
-both false b t = absurd t
+inside : (low high b : ℕ) → low ≤ b → b ≤ high → within low high b ≡ true
+inside low high b l h = rw (le-leb low b l, le-leb b high h)
 
-from : (xs : List ℕ) (i d : ℕ) → T (holds i xs) → (k : ℕ) → k < length xs → getD xs k d ≡ digitValue (i + k)
-from [] i d t k h = absurd (not-suc-le-zero h)
-from (x ∷ xs) i d t zero h =
-    eqb→eq x (digitValue i) (both (eqb x (digitValue i)) (holds (suc i) xs) t .0) ∙ ap digitValue (sym (add-zero i))
-from (x ∷ xs) i d t (suc k) h =
-    from xs (suc i) d (both (eqb x (digitValue i)) (holds (suc i) xs) t .1) k (le-of-suc-le-suc h)
-    ∙ ap digitValue (suc-add i k ∙ sym (add-suc i k))
+outside : (low high b : ℕ) → Outside low high b → within low high b ≡ false
+outside low high b (inl h) = rw (lt-leb low b h)
+outside low high b (inr h) = rw (lt-leb b high h, and-false)
 
--- the test over a whole table is its rule
-pub tested : (table : List ℕ) → T (holds 0 table) → length table ≡ 256 → Holds table
-unfolding Holds
-tested table t e b h = from table 0 0 t b (omega (arith, e)) ∙ ap digitValue (zero-add b)
+pub decimal : (b : ℕ) → 0x30 ≤ b → b ≤ 0x39 → digitValue b ≡ b - 0x30
+unfolding digitValue
+decimal b l h = rw (inside 0x30 0x39 b l h)
+
+pub capital : (b : ℕ) → 0x41 ≤ b → b ≤ 0x46 → digitValue b ≡ b - 0x41 + 10
+unfolding digitValue
+capital b l h = rw (outside 0x30 0x39 b (inr (omega arith)), inside 0x41 0x46 b l h)
+
+pub small : (b : ℕ) → 0x61 ≤ b → b ≤ 0x66 → digitValue b ≡ b - 0x61 + 10
+unfolding digitValue
+small b l h = rw (outside 0x30 0x39 b (inr (omega arith)), outside 0x41 0x46 b (inr (omega arith)), inside 0x61 0x66 b l h)
+
+pub no-digit : (b : ℕ) → Outside 0x30 0x39 b → Outside 0x41 0x46 b → Outside 0x61 0x66 b → digitValue b ≡ 16
+unfolding digitValue
+no-digit b d c s = rw (outside 0x30 0x39 b d, outside 0x41 0x46 b c, outside 0x61 0x66 b s)

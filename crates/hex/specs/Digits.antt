@@ -1,11 +1,9 @@
--- Document 01, 'Words and addresses are .. written as four hexadecimal digits', and 'Listing': 'four hex digits (either case)', 'Digit values
--- come from a table'. Texts are lists of bytes in ASCII.
-use mathlib.Core.Path.{_≡_}
+-- Document 01, 'Words and addresses are .. written as four hexadecimal digits', and 'Listing': 'four hex digits (either case)'; document 02,
+-- note 4: 'Compute the value from the byte's ranges'. Texts are lists of bytes in ASCII.
 use mathlib.Core.Bool.{Bool, cond, _&&_}
 use mathlib.Core.List.{List, [], _∷_}
-use Prim.Native.Nat.{ℕ, _+_, _-_, _/_, _%_, _<_}
+use Prim.Native.Nat.{ℕ, _+_, _-_, _/_, _%_}
 use lib.Dec.{ltb, leb}
-use lib.ListN.{getD}
 
 abbrev pub within : ℕ → ℕ → ℕ → Bool
 within low high b = leb low b && leb b high
@@ -16,10 +14,6 @@ digitValue b =
     cond (within 0x30 0x39 b) (b - 0x30)
     (cond (within 0x41 0x46 b) (b - 0x41 + 10)
     (cond (within 0x61 0x66 b) (b - 0x61 + 10) 16))
-
--- a table that holds the value of each of the 256 bytes
-unfoldable pub Holds : List ℕ → Type 0
-Holds table = (b : ℕ) → b < 256 → getD table b 0 ≡ digitValue b
 
 -- the last hexadecimal digit of a number, in capitals as document 01's example has them: `0` is 48, `A` is 65
 abbrev pub hexDigit : ℕ → ℕ

@@ -1,14 +1,40 @@
--- What a line that has an address and a word says. Assumes nothing.
+-- What numbers, and lines that have an address and a word, say. Assumes nothing.
 use mathlib.Core.Path.{_≡_, refl}
-use mathlib.Core.Bool.{Bool, true, false, cond, _&&_}
+use mathlib.Core.Logic.{_⊎_, inl, inr}
+use mathlib.Core.Bool.{Bool, true, false, cond, _&&_, and-false}
 use mathlib.Core.List.{List, []}
-use Prim.Native.Nat.{ℕ, _<_}
+use Prim.Native.Nat.{ℕ, _+_, _*_, _≤_, _<_}
 use native.Mathlib.Omega.{arith}
-use borrow.Author.Tests.{ltb-true, eqb-true}
+use borrow.Author.Tests.{ltb-true, eqb-true, lt-ltb, le-ltb, eq-eqb, ne-eqb}
 use lib.Dec.{eqb, ltb}
 use lib.ListN.{drop}
 use Rattle.lines.specs.declared.Line.the-variants.{Blank, Entry, IllFormed}
-use Rattle.lines.specs.Lines.{space, afterSpaces, isEmpty, ends, byteAt, numberAt, entryFrom, entryOf, readLine}
+use Rattle.lines.specs.Lines.{space, afterSpaces, isEmpty, ends, byteAt, fourDigits, numberAt, entryFrom, entryOf, readLine}
+
+-- four values, of digits or not
+pub a-number : (a b c d : ℕ) → a < 16 → b < 16 → c < 16 → d < 16 → fourDigits a b c d ≡ a * 4096 + b * 256 + c * 16 + d
+unfolding fourDigits
+a-number a b c d p q r s = rw (lt-ltb a 16 p, lt-ltb b 16 q, lt-ltb c 16 r, lt-ltb d 16 s)
+
+pub no-number : (a b c d : ℕ) → (16 ≤ a) ⊎ ((16 ≤ b) ⊎ ((16 ≤ c) ⊎ (16 ≤ d))) → fourDigits a b c d ≡ 65536
+unfolding fourDigits
+no-number a b c d (inl h) = rw (le-ltb a 16 h)
+no-number a b c d (inr (inl h)) = rw (le-ltb b 16 h, and-false)
+no-number a b c d (inr (inr (inl h))) = rw (le-ltb c 16 h, and-false)
+no-number a b c d (inr (inr (inr h))) = rw (le-ltb d 16 h, and-false)
+
+-- an entry, well-formed or not
+pub an-entry : (a between w : ℕ) (ended : Bool) → a < 65536 → between ≡ space → w < 65536 → ended ≡ true → entryFrom a between w ended ≡ Entry a w
+unfolding entryFrom
+an-entry a between w ended p q r e = rw (lt-ltb a 65536 p, eq-eqb between space q, lt-ltb w 65536 r, e)
+
+pub no-entry : (a between w : ℕ) (ended : Bool)
+    → (65536 ≤ a) ⊎ ((between ≡ space → ⊥) ⊎ ((65536 ≤ w) ⊎ (ended ≡ false))) → entryFrom a between w ended ≡ IllFormed
+unfolding entryFrom
+no-entry a between w ended (inl h) = rw (le-ltb a 65536 h)
+no-entry a between w ended (inr (inl h)) = rw (ne-eqb between space h, and-false)
+no-entry a between w ended (inr (inr (inl h))) = rw (le-ltb w 65536 h, and-false)
+no-entry a between w ended (inr (inr (inr h))) = rw (h, and-false)
 
 pub blank-no-entry : {A : Type 0} (x y : ℕ) → Blank ≡ Entry x y → A
 blank-no-entry x y e = let z : _≡_ {A = ℕ} 0 1 = cc in absurd (omega arith)

@@ -8,7 +8,7 @@ use Prim.Native.Nat.{ℕ, zero, suc, _+_, _*_, _≤_, _<_}
 use native.Mathlib.Nat.{add-zero}
 use native.Mathlib.Decide.{decLt}
 use native.Mathlib.Omega.{arith}
-use borrow.Author.Tests.{ltb-true, lt-ltb, eqb-true}
+use borrow.Author.Tests.{ltb-true, eqb-true}
 use lib.Dec.{eqb, ltb, lit<}
 use lib.ListN.{length, getD, take, drop, replicate, take-append-drop, length-drop, List·getD-append}
 use lib.Seq.{drop-cons, drop-drop, drop-append-add, drop-at, getD-take, getD-drop, getD-at, getD-append-add, length-take-le}
@@ -17,7 +17,7 @@ use Rattle.lines.specs.Lines.{space, semicolon, afterSpaces, isEmpty, no
 use Rattle.lines.specs.Theorems.{digitAt, NumberExactly, Writes, EntryLine, EntryExactly, BlankExactly}
 use Rattle.lines.specs.declared.Line.the-variants.{Blank, Entry, IllFormed}
 use Rattle.lines.proofs.Places.{too-short}
-use Rattle.lines.proofs.Entries.{blank-no-entry, ill-formed-no-entry, line-entered}
+use Rattle.lines.proofs.Entries.{a-number, an-entry, blank-no-entry, ill-formed-no-entry, line-entered}
 
 -- the spaces at the front, counted
 spaces-of : (t : List ℕ) → (k : ℕ) × (t ≡ replicate k space ++ afterSpaces t)
@@ -66,10 +66,6 @@ four-read a b c d n = by (ltb a 16) refl (ltb b 16) refl (ltb c 16) refl (ltb d 
   by true p false q r s t u e h = absurd (omega (arith, e, h))
   by false p q r s t u v e h = absurd (omega (arith, e, h))
 
-four-written : (a b c d : ℕ) → a < 16 → b < 16 → c < 16 → d < 16 → fourDigits a b c d ≡ a * 4096 + b * 256 + c * 16 + d
-unfolding fourDigits
-four-written a b c d p q r s = rw (lt-ltb a 16 p, lt-ltb b 16 q, lt-ltb c 16 r, lt-ltb d 16 s)
-
 -- what holds of four places holds below four
 each-of-four : (P : ℕ → Type 0) → P 0 → P 1 → P 2 → P 3 → (k : ℕ) → k < 4 → P k
 each-of-four P a b c d zero h = a
@@ -90,7 +86,7 @@ number-exactly line i n = (
       let b = p .0 1 (lit< tt) in
       let c = p .0 2 (lit< tt) in
       let d = p .0 3 (lit< tt) in
-      let e = four-written (digitAt line i) (digitAt line (i + 1)) (digitAt line (i + 2)) (digitAt line (i + 3)) z b c d in
+      let e = a-number (digitAt line i) (digitAt line (i + 1)) (digitAt line (i + 2)) (digitAt line (i + 3)) z b c d in
       (e ∙ omega (arith, p .1), omega (arith, p .1, z, b, c, d)),
 )
 
@@ -190,18 +186,10 @@ module _ (first second end : List ℕ) (x y : ℕ) (f : Writes first x) (s : Wri
       ap (λ (n : ℕ). drop n (first ++ (space ∷ (second ++ end)))) e ∙ drop-append-add first (space ∷ (second ++ end)) 5 ∙ drop-at second end 4 (s .0)
 
   written-entry : ends end ≡ true → readLine line ≡ Entry x y
-  unfolding line readLine entryOf entryFrom
+  unfolding line readLine entryOf
   written-entry t =
-      rw (
-        not-blank first (space ∷ (second ++ end)) x f,
-        address-there,
-        word-there,
-        getD-at first space (second ++ end) 0 4 (f .0),
-        end-there,
-        t,
-        lt-ltb x 65536 (f .2),
-        lt-ltb y 65536 (s .2),
-      )
+      rw (not-blank first (space ∷ (second ++ end)) x f, address-there, word-there, end-there)
+      (an-entry x _ y (ends end) (f .2) (getD-at first space (second ++ end) 0 4 (f .0)) (s .2) t)
 
 pub entry-exactly : EntryExactly
 unfolding line Ending

@@ -7,5 +7,4 @@ pub mod CommentBytes
 pub mod Entries
 pub mod Grammar
 pub mod Said
-pub mod LineReader
 pub mod ReadBack

@@ -12,7 +12,7 @@ use lib.ListN.{length, getD, take, drop, length-drop, drop-of-length-le, List·g
 use lib.Seq.{drop-cons, take-all, length-take-le}
 use Rattle.hex.specs.Digits.{digitValue}
 use Rattle.lines.specs.declared.Line.the-variants.{IllFormed}
-use Rattle.lines.specs.Lines.{lineFeed, space, find, firstLine, afterSpaces, isEmpty, fourDigits, numberAt, entryFrom, entryOf}
+use Rattle.lines.specs.Lines.{lineFeed, space, semicolon, find, firstLine, afterSpaces, isEmpty, nothingOrComment, fourDigits, numberAt, entryFrom, entryOf}
 
 -- `&s[i..]`
 pub to-end : (s : List ℕ) (i : ℕ) → take (length s - i) (drop i s) ≡ drop i s
@@ -57,9 +57,22 @@ pub spaces-nothing : (s : List ℕ) (i : ℕ) → length s ≤ i → afterSpaces
 unfolding afterSpaces
 spaces-nothing s i h = rw (drop-of-length-le s h)
 
+pub empty : (t : List ℕ) → length t ≡ 0 → isEmpty t ≡ true
+empty [] e = refl
+empty (b ∷ t) e = absurd (omega (arith, e))
+
 pub not-empty : (t : List ℕ) → (length t ≡ 0 → ⊥) → isEmpty t ≡ false
 not-empty [] n = absurd (n refl)
 not-empty (b ∷ t) n = refl
+
+-- a line's end, by the first byte after the spaces, if any
+pub ends-at-end : (t : List ℕ) → length t ≡ 0 → nothingOrComment t ≡ true
+ends-at-end [] e = refl
+ends-at-end (b ∷ t) e = absurd (omega (arith, e))
+
+pub ends-by-byte : (t : List ℕ) → (length t ≡ 0 → ⊥) → nothingOrComment t ≡ eqb (getD t 0 0) semicolon
+ends-by-byte [] n = absurd (n refl)
+ends-by-byte (b ∷ t) n = refl
 
 -- a line of fewer than nine bytes has no digit at its ninth place
 pub too-short : (line : List ℕ) → length line < 9 → entryOf line ≡ IllFormed

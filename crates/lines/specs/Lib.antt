@@ -2,5 +2,4 @@
 pub mod Lines
 pub mod Answers
 pub mod Comment
-pub mod LineReader
 pub mod Theorems

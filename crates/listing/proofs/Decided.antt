@@ -6,12 +6,7 @@ use native.Mathlib.Omega.{arith}
 use lib.ListN.{length}
 use Rattle.lines.specs.Lines.{lines}
 use Rattle.listing.specs.Answers.{stored, refused}
-use Rattle.listing.proofs.Faults.{from-stored}
 use Rattle.listing.specs.Listing.{Check, sound, faulty, wordsIn, storeLines, answerOf, memoryOf, checkOf, listingAnswer, listingMemory}
-
-pub passed : (listing : List ℕ) (L count : ℕ) → listingAnswer listing L ≡ stored count → checkOf listing L ≡ sound
-unfolding listingAnswer
-passed listing L count e = from-stored (checkOf listing L) (wordsIn (lines listing)) count e .0
 
 module _ (listing memory : List ℕ) where
   pub accepted : (count : ℕ) → listingAnswer listing (length memory) ≡ stored count → listingMemory listing memory ≡ storeLines (lines listing) memory

@@ -1,5 +1,5 @@
 -- One line of a listing checked, counted and stored, with the place of the next. Assumes nothing.
-use mathlib.Core.Path.{_≡_, refl, ap}
+use mathlib.Core.Path.{_≡_, refl}
 use mathlib.Core.List.{List, _∷_}
 use Prim.Native.Nat.{ℕ, _+_, _-_, _≤_, _<_}
 use native.Mathlib.Omega.{arith}
@@ -7,7 +7,7 @@ use borrow.Author.Tests.{ne-eqb}
 use lib.Dec.{lit≤}
 use lib.ListN.{length, take, drop, length-set, drop-of-length-le}
 use Rattle.lines.specs.Lines.{lines, firstLine, readLine}
-use Rattle.lines.specs.Answers.{refused, lineSays, saidBy}
+use Rattle.lines.specs.Answers.{lineSays, saidBy}
 use Rattle.lines.specs.declared.Line.{Line}
 use Rattle.lines.specs.declared.Line.the-variants.{Blank, Entry, IllFormed}
 use Rattle.lines.proofs.Places.{to-end}
@@ -15,7 +15,6 @@ use Rattle.lines.proofs.Front.{front-at, first-in}
 use Rattle.lines.proofs.Said.{lines-apart}
 use Rattle.listing.specs.Answers.{faultNumber}
 use Rattle.listing.specs.declared.Fault.{Fault}
-use Rattle.listing.proofs.Faults.{Sound, then}
 use Rattle.listing.specs.Listing.{lowestAfter, faultOf, sound, faulty, firstFault, wordsOf, wordsIn, storeLine, storeLines}
 
 -- 0 is no fault's number
@@ -68,14 +67,6 @@ module _ {s : List ℕ} {at : ℕ} {x : Line} {n : ℕ} (t : Turn s at x n) wher
       → storeLines (lines (drop at s)) memory ≡ storeLines (lines (drop (at + (n + 1)) s)) (storeLine x memory)
   unfolding storeLines
   stored-line memory = rw (t .splits, t .says)
-
--- a line of which nothing is wrong is not ill-formed, and nothing is wrong with those after it
-pub sound-here : (s : List ℕ) (at L lowest : ℕ) → at < length s → Sound L lowest (lines (drop at s))
-    → (saidBy (firstLine (take (length s - at) (drop at s))) ≡ refused 2 → ⊥)
-    × ((next : ℕ) × Sound L next (lines (drop (at + (length (firstLine (drop at s)) + 1)) s)))
-sound-here s at L lowest h e = rw to-end (by (rw (front-at s at h) at e)) where
-  by : {line : List ℕ} {rest : List (List ℕ)} → Sound L lowest (line ∷ rest) → (saidBy line ≡ refused 2 → ⊥) × ((next : ℕ) × Sound L next rest)
-  by (then lowest line f r) = (λ z. omega (arith, f, ap (faultOf L lowest) (lines-apart (readLine line) IllFormed z)), (lowestAfter (readLine line) lowest, r))
 
 -- past the last line
 pub no-fault : (s : List ℕ) (L lowest at : ℕ) → length s ≤ at → firstFault L lowest at (lines (drop at s)) ≡ sound

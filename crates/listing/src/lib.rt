@@ -1,11 +1,10 @@
 // A listing checked, and stored into a lent memory: all lines are checked before a word is written.
 ghost use mathlib.Core.Path.{_≡_};
 ghost use lib.ListN.{length};
-ghost use Rattle.hex.specs.Digits.{Holds};
 ghost use Rattle.lines.specs.Lines.{lines};
 ghost use Rattle.listing.specs.Answers.{faultNumber, storeAnswer};
 ghost use Rattle.listing.specs.Verdicts.{verdictNumber};
-ghost use Rattle.listing.specs.Listing.{lowestAfter, addressFault, faultOf, sound, checkOf, wordsOf, storeLine, storeLines, listingAnswer, listingMemory};
+ghost use Rattle.listing.specs.Listing.{lowestAfter, addressFault, faultOf, wordsOf, storeLine, storeLines, listingAnswer, listingMemory};
 use lines::Line;
 
 // What is wrong with a line.
@@ -83,15 +82,14 @@ fn words_of(line: Line) -> usize
 }
 
 // What a store of the listing answers, with nothing stored yet.
-fn check(table: &[u8; 256], listing: &[u8], limit: usize) -> StoreAnswer
-    requires { ⌜ Holds (now table) ⌝ }
+fn check(listing: &[u8], limit: usize) -> StoreAnswer
     ensures { λ r. ⌜ storeAnswer r ≡ listingAnswer (now (listing .entry)) limit ⌝ }
 {
     let mut at = 0;
     let mut lowest: u32 = 0;
     let mut count = 0;
     while at < listing.len() {
-        let read = lines::read_line_by(table, &listing[at..]);
+        let read = lines::read_line(&listing[at..]);
         let line = read.line;
         let verdict = judge(limit, lowest, line);
         if let Verdict::Failed(fault) = verdict {
@@ -114,15 +112,13 @@ fn store_line(line: Line, memory: &mut [u16])
     }
 }
 
-// The lines are stored with no further look at what is wrong with one.
-fn store_lines(table: &[u8; 256], listing: &[u8], memory: &mut [u16])
-    requires { ⌜ Holds (now table) ⌝ }
-    requires { ⌜ checkOf (now listing) (length (now memory)) ≡ sound ⌝ }
+// The lines are stored with no further look at what is wrong with one: an ill-formed line says nothing, and is passed over.
+fn store_lines(listing: &[u8], memory: &mut [u16])
     ensures { λ _. ⌜ now (memory .exit) ≡ storeLines (lines (now (listing .entry))) (now (memory .entry)) ⌝ }
 {
     let mut at = 0;
     while at < listing.len() {
-        let read = lines::read_sound_line_by(table, &listing[at..]);
+        let read = lines::read_line(&listing[at..]);
         let line = read.line;
         store_line(line, memory);
         at += read.length + 1;
@@ -135,10 +131,9 @@ pub fn store(listing: &[u8], memory: &mut [u16]) -> StoreAnswer
     ensures answer { λ r. ⌜ storeAnswer r ≡ listingAnswer (now (listing .entry)) (length (now (memory .entry))) ⌝ }
     ensures memory { λ _. ⌜ now (memory .exit) ≡ listingMemory (now (listing .entry)) (now (memory .entry)) ⌝ }
 {
-    let table = hex::table();
-    let answer = check(&table, listing, memory.len());
+    let answer = check(listing, memory.len());
     match answer {
-        StoreAnswer::Stored(_) => store_lines(&table, listing, memory),
+        StoreAnswer::Stored(_) => store_lines(listing, memory),
         StoreAnswer::Refused(_, _) => {}
     }
     answer

@@ -96,6 +96,9 @@ pub forms-forms-read : forms.specs.Theorems.FormsRead
 forms-forms-read = forms.proofs.Read.forms-read
 
 -- hex
+pub hex-digits-kept : hex.specs.Former.DigitsKept
+hex-digits-kept = hex.proofs.Former.digits-kept
+
 pub hex-digit-exactly : hex.specs.Theorems.DigitExactly
 hex-digit-exactly = hex.proofs.Theorems.digit-exactly
 

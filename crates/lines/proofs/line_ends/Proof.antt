@@ -2,7 +2,7 @@
 use mathlib.Core.Path.{sym, ap, _∙_}
 use borrow.Author.Needs.{needs}
 use Rattle.lines.specs.Lines.{nothingOrComment}
-use Rattle.lines.proofs.LineReader.{ends-at-end, ends-by-byte}
+use Rattle.lines.proofs.Places.{ends-at-end, ends-by-byte}
 use Rattle.lines.proofs.line_ends.Statement.{statement}
 use Rattle.lines.proofs.line_ends.Tie as tie
 

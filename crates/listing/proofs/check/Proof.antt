@@ -14,14 +14,14 @@ use Rattle.listing.proofs.check.Statement.{statement}
 use Rattle.listing.proofs.check.Tie as tie
 
 abbrev Inv-loop : tie.InvT-loop
-Inv-loop table listing limit at₀ lowest₀ count₀ at lowest count =
+Inv-loop listing limit at₀ lowest₀ count₀ at lowest count =
     (firstFault limit 0 0 (lines listing) ≡ firstFault limit lowest at (lines (drop at listing)))
     × (wordsIn (lines listing) ≡ count + wordsIn (lines (drop at listing)))
     × (at ≤ length listing + 1)
     × (count ≤ at)
 
 abbrev μ-loop : tie.MeasureT-loop
-μ-loop table listing limit at₀ lowest₀ count₀ at lowest count = length listing + 1 - at
+μ-loop listing limit at₀ lowest₀ count₀ at lowest count = length listing + 1 - at
 
 loop-holds : tie.Need-loop-holds Inv-loop μ-loop
 loop-holds c = (refl, omega arith, omega arith, omega arith)
@@ -32,7 +32,7 @@ returns c =
     let r = c .before .before .before .before in
     let l = r .before .before .before in
     let s = l .before .before .args in
-    let t = turn (s .listing .now) (l .loop .at) (r .read-line-by .result .line) (r .before .before .loop-test .taken) (r .read-line-by .ensures (l .before .before .pre)) in
+    let t = turn (s .listing .now) (l .loop .at) (r .read-line .result .line) (r .before .before .loop-test .taken) (r .read-line .ensures) in
     let v = c .before .before .before .judge .ensures in
     let f = c .before .verdict .given in
     rw (
@@ -43,7 +43,7 @@ returns c =
 add-count : tie.Need-add-count Inv-loop μ-loop
 add-count c =
     let r = c .before .before .before .before .before in
-    omega (arith, c .words-of .ensures, words-le (r .read-line-by .result .line), r .before .before .before .loop .inv .3)
+    omega (arith, c .words-of .ensures, words-le (r .read-line .result .line), r .before .before .before .loop .inv .3)
 
 -- one line more; that the next place is in the listing or just past it also says that the sums fit
 loop-again : tie.Need-loop-again Inv-loop μ-loop
@@ -51,7 +51,7 @@ loop-again c =
     let r = c .before .before .before .before .before .before in
     let l = r .before .before .before in
     let s = l .before .before .args in
-    let t = turn (s .listing .now) (l .loop .at) (r .read-line-by .result .line) (r .before .before .loop-test .taken) (r .read-line-by .ensures (l .before .before .pre)) in
+    let t = turn (s .listing .now) (l .loop .at) (r .read-line .result .line) (r .before .before .loop-test .taken) (r .read-line .ensures) in
     let v = c .before .before .before .before .before .judge .ensures in
     let w = c .before .words-of .ensures in (
       rw (c .before .before .lowest-after .ensures)
@@ -59,7 +59,7 @@ loop-again c =
           ∙ sound-line t (s .limit) (l .loop .lowest) (sym v ∙ ap verdictNumber (c .before .before .before .enum-told .given .1))),
       omega (arith, l .loop .inv .1, w, counted t),
       t .within,
-      omega (arith, w, words-le (r .read-line-by .result .line), l .loop .inv .3),
+      omega (arith, w, words-le (r .read-line .result .line), l .loop .inv .3),
     )
 
 returns-2 : tie.Need-returns-2 Inv-loop μ-loop
