@@ -4,7 +4,7 @@ ghost use mathlib.Core.Path.{_≡_};
 ghost use Prim.Native.Nat.{_+_, _≤_, min};
 ghost use lib.ListN.{length, drop};
 ghost use Rattle.hex.specs.Digits.{digitValue};
-ghost use Rattle.lines.specs.Lines.{firstLine, afterSpaces, ends, numberAt, readLine};
+ghost use Rattle.lines.specs.Lines.{firstLine, afterSpaces, ends, fourDigits, numberAt, readLine};
 ghost use Rattle.lines.specs.Answers.{lineSays, saidBy};
 ghost use Rattle.lines.specs.Comment.{commentText, commentStart};
 
@@ -31,7 +31,7 @@ pub struct Read {
 }
 
 // The value of a hexadecimal digit, in either case; 16 for a byte that is no digit.
-fn digit_value(b: u8) -> u8
+fn digit(b: u8) -> u8
     ensures { λ r. ⌜ r ≡ digitValue b ⌝ }
 {
     let mut value = 16;
@@ -47,15 +47,10 @@ fn digit_value(b: u8) -> u8
     value
 }
 
-// The number that the four digits from a place on write, the first the highest; 65,536, above every word, where a byte is no digit.
-fn number(s: &[u8], i: usize) -> u32
-    requires { ⌜ i + 4 ≤ length (now s) ⌝ }
-    ensures { λ r. ⌜ r ≡ numberAt (now (s .entry)) i ⌝ }
+// The number that four digits write, by their values, the first the highest; 65,536, above every word, where one is no digit's.
+fn number(a: u8, b: u8, c: u8, d: u8) -> u32
+    ensures { λ r. ⌜ r ≡ fourDigits a b c d ⌝ }
 {
-    let a = digit_value(s[i]);
-    let b = digit_value(s[i + 1]);
-    let c = digit_value(s[i + 2]);
-    let d = digit_value(s[i + 3]);
     if 16 <= a || 16 <= b || 16 <= c || 16 <= d {
         return 65536;
     }
@@ -87,7 +82,33 @@ pub fn line_ends(s: &[u8]) -> bool
     t[0] == SEMICOLON
 }
 
-// What a line says, given without its LF: the address stands at places 0 to 3, the word at 5 to 8.
+// The address of a line, at its places 0 to 3.
+fn address_of(text: &[u8]) -> u32
+    requires { ⌜ 9 ≤ length (now text) ⌝ }
+    ensures { λ r. ⌜ r ≡ numberAt (now (text .entry)) 0 ⌝ }
+{
+    number(
+        digit(text[0]),
+        digit(text[1]),
+        digit(text[2]),
+        digit(text[3]),
+    )
+}
+
+// The word of a line, at its places 5 to 8.
+fn word_of(text: &[u8]) -> u32
+    requires { ⌜ 9 ≤ length (now text) ⌝ }
+    ensures { λ r. ⌜ r ≡ numberAt (now (text .entry)) 5 ⌝ }
+{
+    number(
+        digit(text[5]),
+        digit(text[6]),
+        digit(text[7]),
+        digit(text[8]),
+    )
+}
+
+// What a line says, given without its LF.
 fn line_of(text: &[u8]) -> Line
     ensures { λ r. ⌜ r ≡ readLine (now (text .entry)) ⌝ }
 {
@@ -97,8 +118,8 @@ fn line_of(text: &[u8]) -> Line
     if text.len() < 9 {
         return Line::IllFormed;
     }
-    let address = number(text, 0);
-    let word = number(text, 5);
+    let address = address_of(text);
+    let word = word_of(text);
     if 65536 <= address || text[4] != SPACE || 65536 <= word || !line_ends(&text[9..]) {
         return Line::IllFormed;
     }

@@ -24,8 +24,8 @@ returns-2 c =
 returns-3 : tie.Need-returns-3
 unfolding readLine entryOf
 returns-3 c =
-    let word = c .before .number2 in
-    let address = c .before .before .number in
+    let word = c .before .word-of in
+    let address = c .before .before .address-of in
     let spaces = c .before .before .before .before .before .after-spaces in
     let text = c .before .before .before .before .before .before .before .args .text .now in
     rw (sym (spaces .ensures), not-empty (spaces .result .now) (c .before .before .before .before .if1 .left), sym (address .ensures), sym (word .ensures))
@@ -43,8 +43,8 @@ unfolding readLine entryOf
 returns-4 c =
     let ended = c .before .line-ends in
     let fit = c .before .before .before .before .before .before in
-    let word = fit .before .number2 in
-    let address = fit .before .before .number in
+    let word = fit .before .word-of in
+    let address = fit .before .before .address-of in
     let spaces = fit .before .before .before .before .before .after-spaces in
     let text = fit .before .before .before .before .before .before .before .args .text .now in
     rw (sym (spaces .ensures), not-empty (spaces .result .now) (fit .before .before .before .before .if1 .left), sym (address .ensures), sym (word .ensures))

@@ -1,11 +1,11 @@
--- `lines::digit_value` meets its contract: range by range. Assumes nothing.
+-- `lines::digit` meets its contract: range by range. Assumes nothing.
 use mathlib.Core.Path.{sym, _∙_}
 use mathlib.Core.Logic.{inl, inr, ⊎-elim}
 use borrow.Author.Needs.{needs}
 use borrow.Author.Tests.{leb-true, leb-false}
 use Rattle.hex.proofs.Values.{Outside, decimal, capital, small, no-digit}
-use Rattle.lines.proofs.digit_value.Statement.{statement}
-use Rattle.lines.proofs.digit_value.Tie as tie
+use Rattle.lines.proofs.digit.Statement.{statement}
+use Rattle.lines.proofs.digit.Tie as tie
 
 returns : tie.Need-returns
 returns c = sym (small _ (c .before .if5 .taken) (leb-true _ 0x66 (c .if6 .taken)))
@@ -27,5 +27,5 @@ returns-2 c =
     (c .before .before .if1 .came))
     (c .before .if3 .came)
 
-pub digit-value-spec : {M : Type 1} → statement M
-digit-value-spec = tie.close (tie.spec (λ c. search needs) (λ c. search needs) returns returns-2)
+pub digit-spec : {M : Type 1} → statement M
+digit-spec = tie.close (tie.spec (λ c. search needs) (λ c. search needs) returns returns-2)
