@@ -26,6 +26,6 @@ former =
     16 ∷ 16 ∷ 16 ∷ 16 ∷ 16 ∷ 16 ∷ 16 ∷ 16 ∷ 16 ∷ 16 ∷ 16 ∷ 16 ∷ 16 ∷ 16 ∷ 16 ∷ 16 ∷
     16 ∷ 16 ∷ 16 ∷ 16 ∷ 16 ∷ 16 ∷ 16 ∷ 16 ∷ 16 ∷ 16 ∷ 16 ∷ 16 ∷ 16 ∷ 16 ∷ 16 ∷ 16 ∷ []
 
--- each byte has its value there (proved as `digits-kept`)
+-- each of the 256 bytes has the value that it had there (proved as `digits-kept`)
 abbrev pub DigitsKept : Type 0
 DigitsKept = (length former ≡ 256) × ((b : ℕ) → b < 256 → digitValue b ≡ getD former b 0)

@@ -6,7 +6,7 @@ use mathlib.Core.List.{List, [], _∷_, _++_}
 use Prim.Native.Nat.{ℕ, _+_, _-_, _*_, _≤_, _<_, min}
 use lib.ListN.{length, getD, take, drop, replicate}
 use Rattle.hex.specs.Digits.{digitValue, wordText}
-use Rattle.lines.specs.Lines.{lineFeed, space, semicolon, lines, find, firstLine, byteAt, numberAt, readLine}
+use Rattle.lines.specs.Lines.{semicolon, lines, find, firstLine, numberAt, readLine}
 use Rattle.lines.specs.Answers.{skipped, entry, refused, lineSays, saidBy}
 use Rattle.lines.specs.Comment.{lineFrom, commentText, commentStart}
 use Rattle.lines.specs.declared.Line.{Line}
@@ -14,7 +14,7 @@ use Rattle.lines.specs.declared.Line.the-variants.{Blank, Entry}
 
 -- the value of the digit at a place, 16 where there is none
 abbrev pub digitAt : List ℕ → ℕ → ℕ
-digitAt line i = digitValue (byteAt line i)
+digitAt line i = digitValue (getD line i 0)
 
 abbrev pub lineAt : List ℕ → ℕ → List ℕ
 lineAt listing i = getD (lines listing) i []
@@ -22,15 +22,15 @@ lineAt listing i = getD (lines listing) i []
 -- lines one after the other, each with an LF
 unfoldable pub joinedLines : List (List ℕ) → List ℕ
 joinedLines [] = []
-joinedLines (line ∷ rest) = line ++ (lineFeed ∷ joinedLines rest)
+joinedLines (line ∷ rest) = line ++ (10 ∷ joinedLines rest)
 
 -- joined so, the lines are the listing, but for an LF that the last line may lack; and no line holds one (proved as
 -- `lines-joined`; that no empty line is added at the end is in the next)
 abbrev pub LinesJoined : Type 0
 LinesJoined =
     (listing : List ℕ)
-    → ((joinedLines (lines listing) ≡ listing) ⊎ (joinedLines (lines listing) ≡ listing ++ (lineFeed ∷ [])))
-    × ((i j : ℕ) → getD (lineAt listing i) j 0 ≡ lineFeed → ⊥)
+    → ((joinedLines (lines listing) ≡ listing) ⊎ (joinedLines (lines listing) ≡ listing ++ (10 ∷ [])))
+    × ((i j : ℕ) → getD (lineAt listing i) j 0 ≡ 10 → ⊥)
 
 -- where the line after some lines starts: past their bytes and an LF for each
 unfoldable pub startAfter : List (List ℕ) → ℕ
@@ -45,7 +45,7 @@ startAt listing i = startAfter (take i (lines listing))
 abbrev pub LinesStart : Type 0
 LinesStart =
     (listing : List ℕ) (i : ℕ) → i < length (lines listing)
-    → (startAt listing i < length listing) × ((startAt listing i ≡ 0) ⊎ (getD listing (startAt listing i - 1) 0 ≡ lineFeed))
+    → (startAt listing i < length listing) × ((startAt listing i ≡ 0) ⊎ (getD listing (startAt listing i - 1) 0 ≡ 10))
     × (lineAt listing i ≡ firstLine (drop (startAt listing i) listing))
 
 -- the number at a place is that of four hexadecimal digits there, the first the highest, and no number where one is none (proved as
@@ -69,8 +69,8 @@ pub record EntryLine (line : List ℕ) (address word : ℕ) : Type 0 where
   pub rest : List ℕ
   pub writes-address : Writes first address
   pub writes-word : Writes second word
-  pub ending : (rest ≡ []) ⊎ ((comment : List ℕ) × (rest ≡ semicolon ∷ comment))
-  pub whole : line ≡ first ++ (space ∷ (second ++ (replicate spaces space ++ rest)))
+  pub ending : (rest ≡ []) ⊎ ((comment : List ℕ) × (rest ≡ 59 ∷ comment))
+  pub whole : line ≡ first ++ (32 ∷ (second ++ (replicate spaces 32 ++ rest)))
 
 -- a line is read as an entry exactly where it is one, with its address and word (proved as `entry-exactly`)
 abbrev pub EntryExactly : Type 0
@@ -78,7 +78,7 @@ EntryExactly = (line : List ℕ) (address word : ℕ) → (readLine line ≡ Ent
 
 -- and as blank exactly where it is 'of spaces or none' (proved as `blank-exactly`)
 abbrev pub BlankExactly : Type 0
-BlankExactly = (line : List ℕ) → (readLine line ≡ Blank) ↔ ((spaces : ℕ) × (line ≡ replicate spaces space))
+BlankExactly = (line : List ℕ) → (readLine line ≡ Blank) ↔ ((spaces : ℕ) × (line ≡ replicate spaces 32))
 
 -- 'this paper's number and values for each of its cases': different answers of the line reader are read differently (proved as
 -- `lines-apart`)
@@ -91,9 +91,9 @@ abbrev pub SaidExactly : Type 0
 SaidExactly =
     (line : List ℕ)
     → ((address word : ℕ) → (saidBy line ≡ entry address word) ↔ EntryLine line address word)
-    × ((saidBy line ≡ skipped) ↔ ((spaces : ℕ) × (line ≡ replicate spaces space)))
+    × ((saidBy line ≡ skipped) ↔ ((spaces : ℕ) × (line ≡ replicate spaces 32)))
     × ((saidBy line ≡ refused 2)
-    ↔ (((address word : ℕ) → EntryLine line address word → ⊥) × ((spaces : ℕ) → line ≡ replicate spaces space → ⊥)))
+    ↔ (((address word : ℕ) → EntryLine line address word → ⊥) × ((spaces : ℕ) → line ≡ replicate spaces 32 → ⊥)))
 
 -- what is looked for stands where it is found, if anywhere, and not before; else the place is the end (proved as `find-first`)
 abbrev pub FindFirst : Type 0

@@ -1,5 +1,5 @@
 // The line reader of a listing, and the comment call. A line is four hexadecimal digits (an address), one space, four digits (a word),
-// spaces or none, then nothing or `;` and a comment; or it is spaces alone. An LF or the end of the listing ends it.
+// spaces or none, then nothing or `;` and a comment; or it is spaces or none, and says nothing. An LF or the end of the listing ends it.
 ghost use mathlib.Core.Path.{_≡_};
 ghost use Prim.Native.Nat.{_+_, _≤_, min};
 ghost use lib.ListN.{length, drop};
@@ -47,7 +47,8 @@ fn digit(b: u8) -> u8
     value
 }
 
-// The number that four digits write, by their values, the first the highest; 65,536, above every word, where one is no digit's.
+// The number that four digits write, given their values, the first the highest; 65,536, which is above every word, where one of the values
+// is no digit's.
 fn number(a: u8, b: u8, c: u8, d: u8) -> u32
     ensures { λ r. ⌜ r ≡ fourDigits a b c d ⌝ }
 {
@@ -62,10 +63,7 @@ fn after_spaces(s: &[u8]) -> &[u8]
     ensures { λ r. ⌜ now r ≡ afterSpaces (now (s .entry)) ⌝ }
 {
     let mut i = 0;
-    while i < s.len() {
-        if s[i] != SPACE {
-            return &s[i..];
-        }
+    while i < s.len() && s[i] == SPACE {
         i += 1;
     }
     &s[i..]
@@ -76,15 +74,12 @@ pub fn line_ends(s: &[u8]) -> bool
     ensures { λ r. ⌜ r ≡ ends (now (s .entry)) ⌝ }
 {
     let t = after_spaces(s);
-    if t.len() == 0 {
-        return true;
-    }
-    t[0] == SEMICOLON
+    t.len() == 0 || t[0] == SEMICOLON
 }
 
 // The address of a line, at its places 0 to 3.
 fn address_of(text: &[u8]) -> u32
-    requires { ⌜ 9 ≤ length (now text) ⌝ }
+    requires { ⌜ 4 ≤ length (now text) ⌝ }
     ensures { λ r. ⌜ r ≡ numberAt (now (text .entry)) 0 ⌝ }
 {
     number(
@@ -145,7 +140,7 @@ fn first_line(s: &[u8]) -> &[u8]
     &s[..n]
 }
 
-// The line reader: given what is left of a listing as it lies, it reads the line at the front; where nothing is left, a blank one.
+// The line reader: given the rest of a listing, it reads the line at the front. Where nothing is left, that is blank and has no byte.
 pub fn read_line(rest: &[u8]) -> Read
     ensures line { λ r. ⌜ lineSays (r .line) ≡ saidBy (firstLine (now (rest .entry))) ⌝ }
     ensures length { λ r. ⌜ r .length ≡ length (firstLine (now (rest .entry))) ⌝ }

@@ -3,8 +3,8 @@ use mathlib.Core.Path.{sym, ap, _∙_}
 use mathlib.Core.Logic.{inl, inr, ⊎-elim}
 use borrow.Author.Needs.{needs}
 use borrow.Author.Tests.{not-true, not-false, eqb-true, eqb-false, leb-true, leb-false}
-use lib.ListN.{getD, drop}
-use Rattle.lines.specs.Lines.{space, ends, entryOf, readLine}
+use lib.ListN.{drop}
+use Rattle.lines.specs.Lines.{space, ends, byteAt, entryOf, readLine}
 use Rattle.lines.proofs.Places.{to-end, empty, not-empty, too-short}
 use Rattle.lines.proofs.Entries.{an-entry, no-entry}
 use Rattle.lines.proofs.line_of.Statement.{statement}
@@ -30,7 +30,7 @@ returns-3 c =
     let text = c .before .before .before .before .before .before .before .args .text .now in
     rw (sym (spaces .ensures), not-empty (spaces .result .now) (c .before .before .before .before .if1 .left), sym (address .ensures), sym (word .ensures))
     (sym
-    (no-entry (address .result) (getD text 4 0) (word .result) (ends (drop 9 text))
+    (no-entry (address .result) (byteAt text 4) (word .result) (ends (drop 9 text))
     (⊎-elim (λ w. inl (w .taken))
     (λ w.
     inr
@@ -48,7 +48,7 @@ returns-4 c =
     let spaces = fit .before .before .before .before .before .after-spaces in
     let text = fit .before .before .before .before .before .before .before .args .text .now in
     rw (sym (spaces .ensures), not-empty (spaces .result .now) (fit .before .before .before .before .if1 .left), sym (address .ensures), sym (word .ensures))
-    (sym (an-entry (address .result) (getD text 4 0) (word .result) (ends (drop 9 text)) (fit .if3 .left)
+    (sym (an-entry (address .result) (byteAt text 4) (word .result) (ends (drop 9 text)) (fit .if3 .left)
     (eqb-true _ space (not-false _ (c .before .before .before .before .if4 .left)))
     (leb-false 65536 _ (c .before .before .before .if5 .left))
     (sym (ended .ensures ∙ ap ends (to-end text 9)) ∙ not-false _ (c .if6 .left))))
