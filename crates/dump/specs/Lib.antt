@@ -1,0 +1,2 @@
+-- What the contracts of `dump` cite, and the theorems about it.
+pub mod Dump
