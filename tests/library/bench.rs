@@ -1,11 +1,12 @@
-//! Times the library against the plain simulator, call by call the same work on both sides.
+//! Times the library against the plain simulator, and a listing out of memory against a plain
+//! writer in C, call by call the same work on both sides.
 
 #[path = "library.rs"]
 mod library;
 #[path = "plain.rs"]
 mod plain;
 
-use library::{answer_of, left_of, registers_of, state_of, ANSWER, CALL, LOAD, RUN};
+use library::{answer_of, left_of, registers_of, state_of, ANSWER, CALL, LINE, LOAD, OK, RUN};
 use plain::Core;
 use std::hint::black_box;
 use std::time::{Duration, Instant};
@@ -15,6 +16,14 @@ const WORDS: usize = 1_024; // L of the three programs
 const RUN_CYCLES: u32 = 20_000_000; // of a run and of a replay
 const REPLAYED_RUNS: u32 = 20; // in a replay
 const CALLS: u32 = 3_000_000; // runs of 1 cycle, and steps
+const LISTINGS: u32 = 50; // out of memory
+
+#[rustfmt::skip]
+extern "C" {
+    // plain_listing.c
+    fn plain_listing(memory: *const u16, memory_count: usize, first: usize, count: usize,
+        text: *mut u8, text_count: usize) -> u32;
+}
 
 /// Endless loops.
 const PROGRAMS: [(&str, &[u16]); 3] = [
@@ -89,9 +98,9 @@ const PROGRAMS: [(&str, &[u16]); 3] = [
 type End = (Vec<u64>, Vec<u16>);
 
 /// Turns of both sides in alternation; the best time of each.
-fn time(
-    mut library: impl FnMut() -> (Duration, End),
-    mut plain: impl FnMut() -> (Duration, End),
+fn time<E: PartialEq>(
+    mut library: impl FnMut() -> (Duration, E),
+    mut plain: impl FnMut() -> (Duration, E),
 ) -> [f64; 2] {
     let mut best = [Duration::MAX; 2];
     for _ in 0..TURNS {
@@ -268,6 +277,39 @@ fn replay(text: &str, words: usize, runs: u32, budget: u32) -> [f64; 2] {
     )
 }
 
+/// The whole of a memory as a listing, some times over into the same text: return codes and bytes.
+fn listings_turn(
+    words: &[u16],
+    mut listing: impl FnMut(&mut [u16], usize, &mut [u8]) -> u32,
+) -> (Duration, (Vec<u32>, Vec<u8>)) {
+    let (mut memory, mut codes) = (words.to_vec(), vec![u32::MAX; LISTINGS as usize]);
+    let mut text = vec![b'?'; words.len() * LINE];
+    let start = Instant::now();
+    for code in &mut codes {
+        *code = listing(black_box(&mut memory), black_box(words.len()), &mut text);
+    }
+    (start.elapsed(), (codes, text))
+}
+
+fn listings(words: &[u16]) -> [f64; 2] {
+    time(
+        || {
+            listings_turn(words, |memory, count, text| {
+                library::listing(memory, 0, count, text, false)
+            })
+        },
+        || {
+            listings_turn(words, |memory, count, text| unsafe {
+                let (words, bytes) = (memory.len(), text.len());
+                let code =
+                    plain_listing(memory.as_ptr(), words, 0, count, text.as_mut_ptr(), bytes);
+                assert_eq!(code, OK, "the plain writer");
+                code
+            })
+        },
+    )
+}
+
 fn main() {
     println!(
         "The library against the plain simulator: the same calls on both sides, in alternation."
@@ -280,6 +322,7 @@ fn main() {
         "replay: one r8_replay of a load and {REPLAYED_RUNS} runs, {RUN_CYCLES} cycles in all"
     );
     println!("load: one r8_replay of a load of 65536 lines into 65536 words");
+    println!("listing: {LISTINGS} calls of r8_listing of 65536 words, against a plain writer in C (cc -O3)");
     println!();
     println!("million cycles a second                           library     plain     ratio");
     programs();
@@ -295,4 +338,11 @@ fn main() {
         let text = listing(&words, comment);
         print(name, "load", text.len() as f64, replay(&text, 65_536, 0, 0));
     }
+    let bytes = words.len() * LINE * LISTINGS as usize;
+    print(
+        "listing out of memory",
+        "listing",
+        bytes as f64,
+        listings(&words),
+    );
 }

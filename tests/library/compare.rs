@@ -13,6 +13,8 @@ mod lists;
 mod plain;
 #[path = "show.rs"]
 mod show;
+#[path = "written.rs"]
+mod written;
 
 use draw::{Rng, LONG, TABLE};
 use library::*;
@@ -23,6 +25,7 @@ use std::collections::BTreeMap;
 use std::fmt::Write;
 use std::sync::atomic::{AtomicU64, Ordering::Relaxed};
 use std::time::{Duration, Instant};
+use written::{check_drawn_listing, check_rows, Met};
 
 /// Stands in all that the library must leave as it was.
 const MARK: u64 = 0x5AFE_5AFE_5AFE_5AFE;
@@ -514,6 +517,18 @@ fn main() {
     group("e. r8_form: all words", forms);
     group("f. r8_trace: random listings", || {
         traces((lists / 4).max(5_000), seed)
+    });
+    let mut met = Met::new();
+    group("g. r8_listing: rows by hand, and whole memories", || {
+        check_rows(&mut met)
+    });
+    group("h. r8_listing: random stretches of memory", || {
+        every(lists.max(20_000), seed, "listing", |rng| {
+            check_drawn_listing(rng, &mut met)
+        })
+    });
+    group("i. what these listings met, by the plain writer", || {
+        met.outcome()
     });
     finish();
 }

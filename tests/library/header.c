@@ -17,6 +17,7 @@ static uint32_t (*const replay_type)(const uint64_t *, size_t, const uint8_t *, 
     r8_replay;
 static uint32_t (*const trace_type)(const uint8_t *, size_t, uint64_t *, size_t, uint64_t *, size_t) = r8_trace;
 static uint32_t (*const form_type)(uint16_t, uint16_t *, size_t) = r8_form;
+static uint32_t (*const listing_type)(const uint16_t *, size_t, size_t, size_t, uint8_t *, size_t) = r8_listing;
 static uint32_t (*const run_type)(uint16_t *, size_t, uint32_t *, size_t, uint32_t, uint16_t *, size_t, uint64_t *, size_t) = r8_run;
 static uint32_t (*const step_type)(uint16_t *, size_t, uint32_t *, size_t, uint16_t *, size_t, uint64_t *, size_t) = r8_step;
 
@@ -27,11 +28,13 @@ static uint8_t some_text[ROOM];
 static uint16_t some_memory[ROOM], some_form[ROOM], some_registers[ROOM];
 static uint32_t some_state[ROOM];
 static const uint64_t *calls;
-static const uint8_t *text, *listing;
+static const uint8_t *listing;
+static uint8_t *text;
 static uint64_t *answers, *rows, *answer, *at = place;
 static uint16_t word, *memory, *form, *registers;
 static uint32_t *state, b;
 static size_t calls_count, text_count, listing_count, memory_count, answers_count, rows_count, answer_count, form_count, registers_count, state_count;
+static size_t first, count;
 
 static void mark(uint64_t *slice) {
     for (size_t i = 0; i < ROOM; i++) slice[i] = MARK;
@@ -201,6 +204,70 @@ static void forms(void) {
     CHECK(NAMED_r8_form == R8_NO_ROOM);
 }
 
+/* 'address, space, word, LF, ten bytes each, capitals': so many words lent, the first ten of them as here; then the stretch, the text's bytes, the
+ * code, and the lines: what is past them stays, and so does the memory */
+static void listing_is(size_t words, size_t from, size_t stretch, size_t bytes, uint32_t code, const char *lines) {
+    static const uint16_t ten[] = {0x0000, 0x00FF, 0x9ABC, 0xFFFF, 0x7105, 0xB006, 0x0D1E, 0x4321, 0xF00D, 0x1001};
+    for (size_t i = 0; i < ROOM; i++) some_memory[i] = i < 10 ? ten[i] : MARK;
+    memset(some_text, '?', ROOM);
+    memory = some_memory, memory_count = words, first = from, count = stretch;
+    text = some_text, text_count = bytes;
+    uint32_t returned = NAMED_r8_listing;
+    CHECK(returned == code);
+    const size_t end = strlen(lines);
+    int text_holds = memcmp(some_text, lines, end) == 0, memory_holds = 1;
+    for (size_t i = end; i < ROOM; i++) text_holds = text_holds && some_text[i] == '?';
+    for (size_t i = 0; i < ROOM; i++) memory_holds = memory_holds && some_memory[i] == (i < 10 ? ten[i] : MARK);
+    CHECK(text_holds && memory_holds);
+}
+
+static void listings(void) {
+    listing_is(10, 1, 3, 37, R8_OK, "0001 00FF\n0002 9ABC\n0003 FFFF\n"); /* any two of these four exchanged: other lines, or number 4 or 10 */
+    listing_is(10, 4, 2, 2 * R8_LINE, R8_OK, "0004 7105\n0005 B006\n");
+    listing_is(10, 4, 2, 2 * R8_LINE - 1, R8_SHORT_TEXT, "");
+    listing_is(10, 0, 1, 0, R8_SHORT_TEXT, "");
+    listing_is(10, 9, 1, R8_LINE, R8_OK, "0009 1001\n");
+    listing_is(10, 9, 2, 2 * R8_LINE, R8_PAST_END, "");
+    listing_is(10, 10, 0, 5, R8_OK, "");
+    listing_is(10, 11, 0, 5, R8_PAST_END, "");
+    listing_is(10, SIZE_MAX, 2, 40, R8_PAST_END, ""); /* 'first address plus count above L': not the sum modulo 2^64, nor 65,536 */
+    listing_is(10, 2, SIZE_MAX, 40, R8_PAST_END, "");
+    listing_is(10, 65536, 1, 40, R8_PAST_END, "");
+    listing_is(65536, 65535, 1, 12, R8_OK, "FFFF 5A5A\n");
+    listing_is(65536, 43981, 2, 20, R8_OK, "ABCD 5A5A\nABCE 5A5A\n");
+    listing_is(65536, 65536, 0, 12, R8_OK, "");
+    listing_is(65536, 65535, 2, 20, R8_PAST_END, "");
+    listing_is(65537, 3, 1, 12, R8_WRONG_LENGTH, "");
+    listing_is(0, 0, 0, 12, R8_WRONG_LENGTH, "");
+    listing_is(0, 1, 1, 9, R8_WRONG_LENGTH, ""); /* 1, then 4, then 10 */
+    listing_is(65537, 65536, 1, 9, R8_WRONG_LENGTH, "");
+    listing_is(10, 9, 2, 19, R8_PAST_END, "");
+}
+
+static void listings_of_nothing(void) {
+    memory = some_memory, memory_count = 10, first = 3, count = 0;
+    text = NULL, text_count = 0;
+    CHECK(NAMED_r8_listing == R8_OK);
+    count = 1;
+    CHECK(NAMED_r8_listing == R8_SHORT_TEXT);
+    first = 10;
+    CHECK(NAMED_r8_listing == R8_PAST_END);
+    memory = NULL, memory_count = 0;
+    CHECK(NAMED_r8_listing == R8_WRONG_LENGTH);
+}
+
+/* 'gives the same words at those addresses and changes no others' */
+static void listing_loads(void) {
+    const uint64_t load[] = {R8_LOAD, 0, 3 * R8_LINE};
+    listing_is(10, 2, 3, 3 * R8_LINE, R8_OK, "0002 9ABC\n0003 FFFF\n0004 7105\n");
+    memcpy(some_calls, load, sizeof load);
+    for (size_t i = 0; i < ROOM; i++) some_memory[i] = MARK;
+    calls = some_calls, calls_count = R8_CALL;
+    answers = some_answers, answers_count = 2 * R8_ANSWER;
+    CHECK(NAMED_r8_replay == R8_OK && is(some_answers, R8_STORED, 3, 0, 0));
+    for (size_t i = 0; i < ROOM; i++) CHECK(some_memory[i] == (i == 2 ? 0x9ABC : i == 3 ? 0xFFFF : i == 4 ? 0x7105 : MARK));
+}
+
 /* a core between instructions: PC 2, SP 7, clock 1,000, all four flags set; at 2 ADD R3, R1, R2, then ST R3 at R4+R5, PUSH R6, HALT */
 static void lend_core(void) {
     const uint16_t words[] = {0x100, 0x1111, 0x2222, 0x103, 4, 2, 0x106, 0x107, 0x108, 0x109, 0x10A, 0x10B, 0x10C, 0x10D, 0x10E, 0x10F,
@@ -301,13 +368,16 @@ static void core_codes(void) {
 }
 
 int main(void) {
-    CHECK(replay_type != 0 && trace_type != 0 && form_type != 0 && run_type != 0 && step_type != 0);
+    CHECK(replay_type != 0 && trace_type != 0 && form_type != 0 && listing_type != 0 && run_type != 0 && step_type != 0);
     replay_plays();
     replay_codes();
     replay_of_nothing();
     trace_finds();
     trace_of_nothing();
     forms();
+    listings();
+    listings_of_nothing();
+    listing_loads();
     run_and_step();
     core_codes();
     return failed > 0;

@@ -1,8 +1,9 @@
-//! The library under test: the five functions of its header on slices, and the header's numbers of
+//! The library under test: the six functions of its header on slices, and the header's numbers of
 //! cores and answers.
 #![allow(dead_code)] // each program uses a part of it
 
 use crate::plain::{Answer, Core, Stop};
+use std::ptr::{null, null_mut};
 
 pub const RESET: u64 = 0;
 pub const LOAD: u64 = 1;
@@ -12,18 +13,22 @@ pub const VIEW: u64 = 4;
 
 /// What the functions return.
 pub const OK: u32 = 0;
+pub const WRONG_LENGTH: u32 = 1;
+pub const PAST_END: u32 = 4;
 pub const UNDEFINED: u32 = 6;
+pub const SHORT_TEXT: u32 = 10;
 pub const NO_ROOM: u32 = 100;
 pub const NO_CORE: u32 = 101;
 pub const NO_CALL: u32 = 102;
 pub const NO_STRETCH: u32 = 103;
 pub const TOO_LONG: u32 = 104;
 
-/// Numbers of a call, an answer, a row of a trace and a form.
+/// Numbers of a call, an answer, a row of a trace and a form; bytes of a written line.
 pub const CALL: usize = 3;
 pub const ANSWER: usize = 23;
 pub const ROW: usize = 4;
 pub const FORM: usize = 7;
+pub const LINE: usize = 10;
 
 #[rustfmt::skip]
 extern "C" {
@@ -32,6 +37,8 @@ extern "C" {
     fn r8_trace(listing: *const u8, listing_count: usize, rows: *mut u64, rows_count: usize,
         answer: *mut u64, answer_count: usize) -> u32;
     fn r8_form(word: u16, form: *mut u16, form_count: usize) -> u32;
+    fn r8_listing(memory: *const u16, memory_count: usize, first: usize, count: usize,
+        text: *mut u8, text_count: usize) -> u32;
     fn r8_run(registers: *mut u16, registers_count: usize, state: *mut u32, state_count: usize, b: u32,
         memory: *mut u16, memory_count: usize, answer: *mut u64, answer_count: usize) -> u32;
     fn r8_step(registers: *mut u16, registers_count: usize, state: *mut u32, state_count: usize,
@@ -77,6 +84,26 @@ pub fn trace(listing: &[u8], rows: &mut [u64], answer: &mut [u64]) -> u32 {
 
 pub fn form(word: u16, form: &mut [u16]) -> u32 {
     unsafe { r8_form(word, form.as_mut_ptr(), form.len()) }
+}
+
+/// Empty slices are passed as null pointers if `nulls` says so. The memory is lent to be written
+/// only so that a change of it shows.
+pub fn listing(
+    memory: &mut [u16],
+    first: usize,
+    count: usize,
+    text: &mut [u8],
+    nulls: bool,
+) -> u32 {
+    let memory_at = match nulls && memory.is_empty() {
+        true => null(),
+        false => memory.as_mut_ptr(),
+    };
+    let text_at = match nulls && text.is_empty() {
+        true => null_mut(),
+        false => text.as_mut_ptr(),
+    };
+    unsafe { r8_listing(memory_at, memory.len(), first, count, text_at, text.len()) }
 }
 
 pub fn run(

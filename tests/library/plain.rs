@@ -1,5 +1,5 @@
 //! A plain simulator of the R8 core, written from document 01 alone: one datapath cycle after the
-//! other.
+//! other; and a plain writer of listings, from document 02, note 1.
 #![allow(dead_code)] // each program uses a part of it
 
 use Op::*;
@@ -438,6 +438,29 @@ fn four_digits(digits: &[u8]) -> Option<u16> {
         value = value << 4 | char::from(digit).to_digit(16)? as u16;
     }
     Some(value)
+}
+
+/// Writes the words at `count` addresses from `first` on as listing lines: answers how many bytes
+/// these are, or the number of a refusal.
+pub fn write_listing(
+    memory: &[u16],
+    first: usize,
+    count: usize,
+    text: &mut [u8],
+) -> Result<usize, u8> {
+    if bad_length(memory) {
+        return Err(1);
+    }
+    if first as u128 + count as u128 > memory.len() as u128 {
+        return Err(4);
+    }
+    if text.len() < 10 * count {
+        return Err(10);
+    }
+    for (line, address) in text.chunks_mut(10).zip(first..first + count) {
+        line.copy_from_slice(format!("{address:04X} {:04X}\n", memory[address]).as_bytes());
+    }
+    Ok(10 * count)
 }
 
 /// What r8trace prints: a row for each finished instruction (address, word, cycles, flags after),

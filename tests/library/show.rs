@@ -37,6 +37,19 @@ pub fn same_answers(got: &[u64], want: &[u64], count: usize) -> Result<(), Strin
     Err(format!("call {call} answers: {got}\n  expected: {want}"))
 }
 
+/// Lines of a text, counted from 0; the last may be a part of one.
+pub fn same_text(got: &[u8], want: &[u8]) -> Result<(), String> {
+    let Some(at) = difference(got, want) else {
+        return Ok(());
+    };
+    let line = at / LINE;
+    let [got, want] = [got, want].map(|text| {
+        let shown = text.chunks(LINE).nth(line).unwrap_or(&[]);
+        shown.escape_ascii().to_string()
+    });
+    Err(format!("line {line} is \"{got}\", expected \"{want}\""))
+}
+
 pub fn words(words: &[u16]) -> String {
     words.iter().map(|word| format!(" {word:04X}")).collect()
 }
