@@ -2,7 +2,7 @@
  *
  * A slice is passed as a pointer and a count of elements. A null pointer is allowed where the count is 0; at is never null. What a function
  * can write (a slice without const, and *at) may overlap nothing else that it is given. 'Number 1' and the like mean a refusal's number of
- * document 01: README has the table. */
+ * documents 01 and 02: README has the table. */
 #ifndef R8_H
 #define R8_H
 #include <stddef.h>
@@ -12,9 +12,12 @@ extern "C" {
 #endif
 
 /* What a function returns: R8_OK, also where an answer that it wrote is a refusal; or why it changed nothing, but for *at of r8_replay. A
- * number of document 01 is returned as itself; the codes from 100 on are this header's own. */
+ * number of those documents is returned as itself; the codes from 100 on are this header's own. */
 #define R8_OK 0
+#define R8_WRONG_LENGTH 1 /* number 1: the memory has 0 words, or more than 65,536 */
+#define R8_PAST_END 4     /* number 4, its offset being 0: first address plus count is above the memory's length */
 #define R8_UNDEFINED 6    /* number 6: the word is undefined */
+#define R8_SHORT_TEXT 10  /* number 10: the text is shorter than ten bytes a word */
 #define R8_NO_ROOM 100    /* a slice is too short for what would be written to it */
 #define R8_NO_CORE 101    /* registers and state are no core's */
 #define R8_NO_CALL 102    /* three numbers are no call, or fewer are left */
@@ -71,6 +74,18 @@ uint32_t r8_trace(const uint8_t *listing, size_t listing_count, uint64_t *rows, 
  * R8_UNDEFINED. */
 #define R8_FORM 7
 uint32_t r8_form(uint16_t word, uint16_t *form, size_t form_count);
+
+/* A listing out of memory: the words at count addresses from first on, each as a line of R8_LINE bytes, one after the other from text[0] on:
+ * address, space, word, LF, address and word in four capital hexadecimal digits. What is past the last line stays. A load of just these bytes,
+ * into any memory of as many words, on a core with cycle 1 due, gives the same words at those addresses and changes no others. No core is taken
+ * here, and the memory stays as it is.
+ * Returns R8_OK; or, the first that applies, with the text as it was,
+ *   R8_WRONG_LENGTH: memory_count is 0 or above 65,536;
+ *   R8_PAST_END: first plus count, a sum of any size, is above memory_count (so a count of 0 is taken up to first = memory_count);
+ *   R8_SHORT_TEXT: text_count is below R8_LINE times count. */
+#define R8_LINE 10
+uint32_t r8_listing(const uint16_t *memory, size_t memory_count, size_t first, size_t count,
+                    uint8_t *text, size_t text_count);
 
 /* One run of b cycles, or one step, of a core given as numbers, also one that no call made. registers has 22 words: R0 to R15, PC, SP, IR,
  * RA, RB, RALU. state has four numbers: 8N+4Z+2C+V, stop state, cycle due (0 to 255), clock. Both become the next core's, and the answer

@@ -30,17 +30,24 @@ no-offset : (n m offset : ℕ) {A : Type 0} → refused n ≡ refusedAt m offset
 no-offset n m offset e = let z : _≡_ {A = ℕ} 0 1 = cc in absurd (omega arith)
 
 module _ (memory : List ℕ) (first count : ℕ) (text : List ℕ) where
-  number : ℕ
+  abbrev number : ℕ
   number = dumpNumber (length memory) first count (length text)
 
-  exact : (n : ℕ) → ((number ≡ n) × (n ≡ 0 → ⊥)) ↔ First n (dumpNumbers memory first count text)
-  unfolding number dumpNumber
+  pub exact : (n : ℕ) → ((number ≡ n) × (n ≡ 0 → ⊥)) ↔ First n (dumpNumbers memory first count text)
+  unfolding dumpNumber
   exact n =
       first-exactly _ (dumpNumbers memory first count text)
       (more 1 (wrongLength (length memory)) _ _ _ (λ e. omega (arith, e)) (length-exactly (length memory))
       (more 4 (ltb (length memory) (first + count)) _ _ _ (λ e. omega (arith, e)) (above-means (length memory) (first + count))
       (more 10 (ltb (length text) (10 * count)) _ _ _ (λ e. omega (arith, e)) (above-means (length text) (10 * count)) no-more)))
       n
+
+  pub none-exact : (number ≡ 0) ↔ NoneApplies (dumpNumbers memory first count text)
+  none-exact = (λ e n f. exact n .1 f .1 (sym (exact n .1 f .0) ∙ e), by (eqb number 0) refl)
+    where
+      by : (zero : Bool) → eqb number 0 ≡ zero → NoneApplies (dumpNumbers memory first count text) → number ≡ 0
+      by true e none = eqb-true number 0 e
+      by false e none = absurd (none number (exact number .0 (refl, eqb-false number 0 e)))
 
   -- there is no other number
   listed : (n : ℕ) → First n (dumpNumbers memory first count text) → (n ≡ 1) ⊎ ((n ≡ 4) ⊎ (n ≡ 10))
@@ -59,7 +66,7 @@ module _ (memory : List ℕ) (first count : ℕ) (text : List ℕ) where
   takes : number ≡ 0 → Says (record { answer = written (10 * count); text = linesText memory first count ++ drop (10 * count) text })
   unfolding Says
   takes e =
-      let none : NoneApplies (dumpNumbers memory first count text) = λ n f. exact n .1 f .1 (sym (exact n .1 f .0) ∙ e) in (
+      let none = none-exact .0 e in (
         λ n. (λ r. not-refused n (10 * count) r, λ f. absurd (none n (f .0))),
         λ n offset. (λ r. not-refused-at n offset (10 * count) r, λ f. absurd (none n (f .0))),
         λ bytes. (λ r. (none, cc), λ f. ap written (sym (f .1))),
@@ -109,7 +116,7 @@ module _ (memory : List ℕ) (first count : ℕ) (text : List ℕ) where
           )
 
   says : Says (dumped memory first count text)
-  unfolding dumped number
+  unfolding dumped
   says = by (eqb number 0) refl
     where
       by : (none : Bool) → eqb number 0 ≡ none
@@ -153,12 +160,4 @@ module _ (memory : List ℕ) (first count : ℕ) (text : List ℕ) (bytes : ℕ)
       by-size L wrong = elim (decLt 65536 L) [ yes h ↦ absurd (wrong (inr h)) | no h ↦ omega arith ]
 
   pub is-taken : dumped memory first count text .answer ≡ written bytes → Taken memory first count text bytes
-  unfolding number
-  is-taken r =
-      let t = dump-numbers memory first count text .2 bytes .0 r in
-      no-number (by (eqb (number memory first count text) 0) refl (t .0)) (t .1)
-    where
-      by : (zero : Bool) → eqb (number memory first count text) 0 ≡ zero → NoneApplies (dumpNumbers memory first count text)
-          → number memory first count text ≡ 0
-      by true e none = eqb-true _ 0 e
-      by false e none = absurd (none (number memory first count text) (exact memory first count text _ .0 (refl, eqb-false _ 0 e)))
+  is-taken r = let t = dump-numbers memory first count text .2 bytes .0 r in no-number (none-exact memory first count text .1 (t .0)) (t .1)

@@ -6,3 +6,4 @@ mod Held
 pub mod Theorems
 pub mod Apart
 pub mod Exactly
+pub mod Dump

@@ -1,5 +1,5 @@
 -- Nothing is lost between a core and its numbers, so calls one after the other on the same slices are calls of one core; and what codes say that
--- the functions return. Ten statements, proved in proofs/Theorems.antt, proofs/Apart.antt and proofs/Exactly.antt.
+-- the functions return. Eleven statements, proved in proofs/Theorems.antt, proofs/Apart.antt and proofs/Exactly.antt.
 use mathlib.Core.Path.{_≡_}
 use mathlib.Core.Logic.{_↔_, _⊎_}
 use mathlib.Core.Bool.{true, false}
@@ -10,16 +10,19 @@ use Rattle.isa.specs.declared.Kind.{Kind}
 use Rattle.table.specs.Table.{kindOf}
 use Rattle.effects.specs.declared.Stop.the-variants.{Going}
 use Rattle.core.specs.Calls.{Reply, run, step}
-use Rattle.refusals.specs.Theorems.{NoneApplies}
+use Rattle.refusals.specs.Theorems.{First, NoneApplies}
 use Rattle.replay.specs.declared.ReplayAnswer.{ReplayAnswer}
 use Rattle.core.specs.TheoremsOfCalls.{runNumbers}
 use Rattle.core.specs.declared.Core.{Core}
 use Rattle.layout.specs.Layout.{answerSize}
 use Rattle.trace.specs.Trace.{noRoom, traced}
+use Rattle.dump.specs.Dump.{dumped}
+use Rattle.dump.specs.Theorems.{dumpNumbers}
 use Rattle.r8.specs.Codes.{Code, ok, undefined, codeNumber}
 use Rattle.r8.specs.Numbers.{registersOf, stateOf, coreOf, isCore}
 use Rattle.r8.specs.Call.{Slices, codeOf, after, called}
 use Rattle.r8.specs.Form.{formSize, formed}
+use Rattle.r8.specs.Dump.{dumpReturned}
 use Rattle.r8.specs.Replay.{replayCode, replayPlace}
 use Rattle.r8.specs.Trace.{tracedReturned}
 
@@ -93,6 +96,14 @@ FormCodes =
     → let code : ℕ = formed word slice .0 in
     ((code ≡ codeNumber Code.noRoom) ↔ (length slice < formSize))
     × ((code ≡ codeNumber undefined) ↔ ((formSize ≤ length slice) × (kindOf word ≡ Kind.Undefined)))
+
+-- of r8_listing: the first number that applies, 0 where none does (proved as `dump-codes`)
+abbrev pub DumpCodes : Type 0
+DumpCodes =
+    (memory : List ℕ) (first count : ℕ) (text : List ℕ)
+    → let code : ℕ = dumpReturned (dumped memory first count text) .0 in
+    ((code ≡ codeNumber ok) ↔ NoneApplies (dumpNumbers memory first count text))
+    × ((n : ℕ) → ((code ≡ n) × (n ≡ 0 → ⊥)) ↔ First n (dumpNumbers memory first count text))
 
 -- and of r8_trace (proved as `trace-codes`)
 abbrev pub TraceCodes : Type 0

@@ -1,0 +1,14 @@
+-- r8_listing: what it returns, and what is then in the text.
+use mathlib.Core.List.{List}
+use Prim.Native.Nat.{ℕ}
+use Rattle.dump.specs.Dump.{Answer, written, refused, refusedAt, Dumped}
+use Rattle.r8.specs.Codes.{ok, codeNumber}
+
+-- a refusal's number is returned as itself; the offset of 4 is 0, always, and is not
+abbrev pub dumpCode : Answer → ℕ
+dumpCode (written bytes) = codeNumber ok
+dumpCode (refused number) = number
+dumpCode (refusedAt number offset) = number
+
+abbrev pub dumpReturned : Dumped → ℕ × List ℕ
+dumpReturned x = (dumpCode (x .answer), x .text)
