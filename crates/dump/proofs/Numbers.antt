@@ -8,7 +8,7 @@ use borrow.Author.Tests.{ltb-false}
 use lib.Dec.{eqb, ltb}
 use lib.ListN.{length, drop}
 use Rattle.refusals.specs.Refusals.{wrongLength, firstNumber}
-use Rattle.dump.specs.Dump.{linesText, dumpNumber, written, refused, refusedAt, dumped}
+use Rattle.dump.specs.Dump.{linesText, pastEnd, tooShort, dumpNumber, written, refused, refusedAt, dumped}
 
 pub right-length : (L : ℕ) → wrongLength L ≡ false → L ≤ 65536
 right-length L = by (eqb L 0) where
@@ -22,16 +22,16 @@ module _ (memory : List ℕ) (first count : ℕ) (text : List ℕ) where
   wrong e = rw e
 
   module _ (right : wrongLength (length memory) ≡ false) where
-    pub past : ltb (length memory) (first + count) ≡ true → dumped memory first count text ≡ record { answer = refusedAt 4 0; text = text }
+    pub past : pastEnd (length memory) first count ≡ true → dumped memory first count text ≡ record { answer = refusedAt 4 0; text = text }
     unfolding dumped dumpNumber firstNumber
     past e = rw (right, e)
 
-    module _ (within : ltb (length memory) (first + count) ≡ false) where
-      pub short : ltb (length text) (10 * count) ≡ true → dumped memory first count text ≡ record { answer = refused 10; text = text }
+    module _ (within : pastEnd (length memory) first count ≡ false) where
+      pub short : tooShort (length text) count ≡ true → dumped memory first count text ≡ record { answer = refused 10; text = text }
       unfolding dumped dumpNumber firstNumber
       short e = rw (right, within, e)
 
-      pub taken : ltb (length text) (10 * count) ≡ false
+      pub taken : tooShort (length text) count ≡ false
           → dumped memory first count text ≡ record { answer = written (10 * count); text = linesText memory first count ++ drop (10 * count) text }
       unfolding dumped dumpNumber firstNumber
       taken e = rw (right, within, e)

@@ -13,7 +13,7 @@ use lib.ListN.{length, drop}
 use Rattle.refusals.specs.Refusals.{wrongLength}
 use Rattle.refusals.specs.Theorems.{First, NoneApplies, Means}
 use Rattle.refusals.proofs.First.{clash, no-more, more, first-exactly, none-applies, length-exactly}
-use Rattle.dump.specs.Dump.{linesText, dumpNumber, Answer, written, refused, refusedAt, refusal, Dumped, dumped}
+use Rattle.dump.specs.Dump.{linesText, pastEnd, tooShort, dumpNumber, Answer, written, refused, refusedAt, refusal, Dumped, dumped}
 use Rattle.dump.specs.Theorems.{dumpNumbers, DumpNumbers}
 
 above-means : (n m : ℕ) → Means (ltb n m) (n < m)
@@ -38,8 +38,8 @@ module _ (memory : List ℕ) (first count : ℕ) (text : List ℕ) where
   exact n =
       first-exactly _ (dumpNumbers memory first count text)
       (more 1 (wrongLength (length memory)) _ _ _ (λ e. omega (arith, e)) (length-exactly (length memory))
-      (more 4 (ltb (length memory) (first + count)) _ _ _ (λ e. omega (arith, e)) (above-means (length memory) (first + count))
-      (more 10 (ltb (length text) (10 * count)) _ _ _ (λ e. omega (arith, e)) (above-means (length text) (10 * count)) no-more)))
+      (more 4 (pastEnd (length memory) first count) _ _ _ (λ e. omega (arith, e)) (above-means (length memory) (first + count))
+      (more 10 (tooShort (length text) count) _ _ _ (λ e. omega (arith, e)) (above-means (length text) (10 * count)) no-more)))
       n
 
   pub none-exact : (number ≡ 0) ↔ NoneApplies (dumpNumbers memory first count text)
@@ -144,8 +144,8 @@ module _ (memory : List ℕ) (first count : ℕ) (text : List ℕ) (bytes : ℕ)
   unfolding dumpNumber dumped
   no-number e same =
       let one = none-applies 0 (wrongLength (length memory)) _ e in
-      let four = none-applies 3 (ltb (length memory) (first + count)) _ (one .1) in
-      let ten = none-applies 9 (ltb (length text) (10 * count)) _ (four .1) in
+      let four = none-applies 3 (pastEnd (length memory) first count) _ (one .1) in
+      let ten = none-applies 9 (tooShort (length text) count) _ (four .1) in
       let right = length-exactly (length memory) .1 (one .0) in
       record {
         right = right;

@@ -1,6 +1,6 @@
 -- Document 02, note 1, 'Listings back out of memory': what is written, the numbers 1, 4 and 10, and what the call answers. A memory is the list
 -- of its words, a text the list of its bytes.
-use mathlib.Core.Bool.{cond}
+use mathlib.Core.Bool.{Bool, cond}
 use mathlib.Core.List.{List, [], _∷_, _++_}
 use Prim.Native.Nat.{ℕ, zero, suc, _+_, _*_}
 use lib.Dec.{eqb, ltb}
@@ -22,10 +22,16 @@ unfoldable pub linesText : List ℕ → ℕ → ℕ → List ℕ
 linesText memory first zero = []
 linesText memory first (suc count) = lineText first (wordAt memory first) ++ linesText memory (first + 1) count
 
--- 'First address plus count above L is refused with 4', '10 when the lent text is shorter than ten bytes a word; checked after 1 and 4'; 0 where
--- none applies
+-- 'First address plus count above L'; 'the lent text is shorter than ten bytes a word'
+abbrev pub pastEnd : ℕ → ℕ → ℕ → Bool
+pastEnd L first count = ltb L (first + count)
+
+abbrev pub tooShort : ℕ → ℕ → Bool
+tooShort room count = ltb room (10 * count)
+
+-- '.. is refused with 4', '10 when ..; checked after 1 and 4'; 0 where none applies
 unfoldable pub dumpNumber : ℕ → ℕ → ℕ → ℕ → ℕ
-dumpNumber L first count room = firstNumber ((1, wrongLength L) ∷ (4, ltb L (first + count)) ∷ (10, ltb room (10 * count)) ∷ [])
+dumpNumber L first count room = firstNumber ((1, wrongLength L) ∷ (4, pastEnd L first count) ∷ (10, tooShort room count) ∷ [])
 
 -- the answers: how many bytes were written (the paper leaves it free); or a refusal's number, or its number and offset
 pub data Answer : Type 0 where

@@ -2,11 +2,10 @@
 ghost use mathlib.Core.Path.{_≡_};
 ghost use mathlib.Core.List.{_++_};
 ghost use Prim.Native.Nat.{_+_, _*_, _≤_};
-ghost use lib.Dec.{ltb};
 ghost use lib.ListN.{length, drop};
 ghost use lib.Seq.{sets};
 ghost use Rattle.hex.specs.Digits.{wordText};
-ghost use Rattle.dump.specs.Dump.{lineText, linesText, dumpGave, dumped};
+ghost use Rattle.dump.specs.Dump.{lineText, linesText, pastEnd, dumpGave, dumped};
 use listing::Fault;
 use refusals::Refusal;
 
@@ -22,7 +21,7 @@ pub enum DumpAnswer {
 
 // Whether first plus count is above the limit; the sum itself may be above every usize.
 fn past_end(limit: usize, first: usize, count: usize) -> bool
-    ensures { λ r. ⌜ r ≡ ltb limit (first + count) ⌝ }
+    ensures { λ r. ⌜ r ≡ pastEnd limit first count ⌝ }
 {
     if limit < first {
         return true;
@@ -75,7 +74,7 @@ pub fn listing(memory: &[u16], first: usize, count: usize, text: &mut [u8]) -> D
     if past_end(memory.len(), first, count) {
         return DumpAnswer::Faulty(Fault::PastEnd, 0);
     }
-    if text.len() < LINE * count {
+    if text.len() / LINE < count {
         return DumpAnswer::Refused(Refusal::ShortText);
     }
     put_lines(memory, first, count, text);

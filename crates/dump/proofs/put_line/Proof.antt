@@ -1,12 +1,13 @@
 -- `dump::put_line` meets its contract: two words, with a space between and an LF behind. Assumes nothing.
-use mathlib.Core.Path.{_≡_, _∙_}
-use native.Mathlib.Omega.{arith}
+use mathlib.Core.Path.{_∙_}
 use lib.ListN.{length-set}
 use borrow.Author.Needs.{needs}
 use Rattle.dump.proofs.Writes.{line-written}
 use Rattle.dump.proofs.put_line.Statement.{statement}
 use Rattle.dump.proofs.put_line.Tie as tie
 
+-- a byte that is stored, and a word that is put,
+-- leave the text as long as it was
 put-word-requires-2 : tie.Need-put-word-requires-2
 put-word-requires-2 c κs = simp length-set (search needs)
 
@@ -16,10 +17,13 @@ slice-write-text-2 c = rw (c .before .before .put-word2 .kept .0, length-set) (s
 same-length : tie.Need-same-length
 same-length c = simp length-set (c .before .before .put-word2 .kept .0 ∙ simp length-set (c .before .before .before .before .before .before .put-word .kept .0))
 
+-- the four stores, one after the other,
+-- are those of the line
 returns : tie.Need-returns
 returns c =
     let a = c .before .before .before .before .before .before .before .before .before .args in
-    rw (c .before .before .put-word2 .ensures, c .before .before .before .before .before .before .put-word .ensures) (line-written (a .text .now) (a .at) (a .address) (a .word))
+    rw (c .before .before .put-word2 .ensures, c .before .before .before .before .before .before .put-word .ensures)
+    (line-written (a .text .now) (a .at) (a .address) (a .word))
 
 pub put-line-spec : {M : Type 1} → statement M
 put-line-spec =
