@@ -2,21 +2,23 @@
 use mathlib.Core.Path.{_≡_, refl, subst}
 use mathlib.Core.Bool.{Bool, true, false, cond, _&&_}
 use mathlib.Core.List.{List, [], _∷_}
-use Prim.Native.Nat.{ℕ, suc, _+_, _-_, _*_, _≤_}
+use Prim.Native.Nat.{ℕ, suc, _+_, _*_, _≤_}
 use native.Mathlib.Omega.{arith}
-use borrow.Author.Tests.{leb-true}
-use lib.Dec.{eqb, leb, lit≤}
-use lib.ListN.{length, getD, drop}
+use lib.Dec.{eqb, lit≤}
+use lib.ListN.{length, drop}
 use Rattle.lines.specs.Lines.{lineFeed, prepend, lines, ends}
 use Rattle.lines.specs.Theorems.{startAfter}
-use Rattle.script.specs.Commands.{resetWord, loadWord, endWord, stepWord, viewWord, runWord, begins, says, isDigit, runOf, budgetFrom, budgetOf, commandOf}
+use Rattle.script.specs.Commands.{resetWord, loadWord, endWord, stepWord, viewWord, runWord, begins, says, decimalOf, runOf, withNumbers, commandOf}
 use Rattle.script.specs.Script.{meaningOf, placeAfter, Call, call, Script, calls, unreadable, called, followed, atEnd, scriptFrom, scriptOf}
 use Rattle.script.specs.Theorems.{FewCalls, IsCall, AllCalls, EachIsCall}
 use Rattle.script.specs.declared.Command.{Command}
 use Rattle.script.specs.declared.Command.the-variants.{Blank, Reset, Load, End, Run, Step, View, Unknown}
+use Rattle.script.specs.declared.Decimal.{Decimal}
+use Rattle.script.specs.declared.Decimal.the-variants.{Value, NoValue}
 use Rattle.script.specs.declared.Place.{Place}
 use Rattle.script.specs.declared.Place.the-variants.{Outside, Inside}
 use Rattle.script.proofs.Words.{begins-length}
+use Rattle.script.proofs.Decimals.{Small, decimal-small}
 use Rattle.script.proofs.Writes.{not-calls}
 
 -- how many bytes a command has at least, as far as is asked here
@@ -52,22 +54,9 @@ when : (b : Bool) {x y : Command} {n : ℕ} → (b ≡ true → Fair x n) → Fa
 when true f g = f refl
 when false f g = g
 
-run-fair : (v : ℕ) (ended : Bool) {n : ℕ} → 4 ≤ n → Fair (runOf v ended) n
-unfolding runOf
-run-fair v ended {n} h = by (leb v 4294967295) refl ended where
-  by : (b : Bool) → leb v 4294967295 ≡ b → (ended : Bool) → Fair (cond (b && ended) (Run v) Unknown) n
-  by true e true = record { long = h; small = leb-true v 4294967295 e }
-  by true e false = none n
-  by false e ended = none n
-
-digits-fair : (v : ℕ) (t : List ℕ) {n : ℕ} → 4 ≤ n → Fair (budgetFrom v t) n
-unfolding budgetFrom
-digits-fair v [] h = run-fair v true h
-digits-fair v (b ∷ t) h = when (isDigit b) (λ d. digits-fair (v * 10 + (b - 48)) t h) (run-fair v (ends (b ∷ t)) h)
-
-budget-fair : (t : List ℕ) {n : ℕ} → 4 ≤ n → Fair (budgetOf t) n
-unfolding budgetOf
-budget-fair t {n} h = when (isDigit (getD t 0 0)) (λ d. digits-fair 0 t h) (none n)
+run-fair : (d : Decimal) {n : ℕ} → Small d → 4 ≤ n → Fair (runOf d) n
+run-fair (Value v) s h = record { long = h; small = s }
+run-fair NoValue {n} s h = none n
 
 says-length : (word line : List ℕ) → says word line ≡ true → length word ≤ length line
 unfolding says
@@ -75,6 +64,12 @@ says-length word line = by (begins word line) refl where
   by : (b : Bool) → begins word line ≡ b → b && ends (drop (length word) line) ≡ true → length word ≤ length line
   by true e t = begins-length word line e
   by false e t = let z : _≡_ {A = ℕ} 0 1 = cc in absurd (omega arith)
+
+numbers-fair : (line : List ℕ) → Fair (withNumbers line) (length line)
+unfolding withNumbers
+numbers-fair line =
+    when (begins runWord line) (λ e. run-fair (decimalOf (drop 4 line)) (decimal-small (drop 4 line)) (begins-length runWord line e))
+    (none (length line))
 
 pub command-fair : (line : List ℕ) → Fair (commandOf line) (length line)
 unfolding commandOf
@@ -84,8 +79,7 @@ command-fair line =
     (when (says loadWord line) (λ e. record { long = says-length loadWord line e; small = tt })
     (when (says endWord line) (λ e. record { long = omega arith; small = tt })
     (when (says stepWord line) (λ e. record { long = says-length stepWord line e; small = tt })
-    (when (says viewWord line) (λ e. record { long = says-length viewWord line e; small = tt })
-    (when (begins runWord line) (λ e. budget-fair (drop 4 line) (begins-length runWord line e)) (none (length line))))))))
+    (when (says viewWord line) (λ e. record { long = says-length viewWord line e; small = tt }) (numbers-fair line))))))
 
 -- a load that is open starts before the place reached, and its own line has paid for its call
 abbrev pub Before : Place → ℕ → Type 0

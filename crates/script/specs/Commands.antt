@@ -9,6 +9,8 @@ use lib.ListN.{length, getD, drop}
 use Rattle.lines.specs.Lines.{ends}
 use Rattle.script.specs.declared.Command.{Command}
 use Rattle.script.specs.declared.Command.the-variants.{Blank, Reset, Load, End, Run, Step, View, Unknown}
+use Rattle.script.specs.declared.Decimal.{Decimal}
+use Rattle.script.specs.declared.Decimal.the-variants.{Value, NoValue}
 
 -- the words, in ASCII: `reset`, `load`, `end`, `step`, `view`, and `run` with its space
 abbrev pub resetWord : List ℕ
@@ -43,19 +45,29 @@ says word line = begins word line && ends (drop (length word) line)
 unfoldable pub isDigit : ℕ → Bool
 isDigit b = leb 48 b && leb b 57
 
--- a budget of 32 bits, its digits followed by the end of a line as above
-unfoldable pub runOf : ℕ → Bool → Command
-runOf n ended = cond (leb n 4294967295 && ended) (Run n) Unknown
+-- a number of 32 bits, its digits followed by the end of a line as above
+unfoldable pub valueOf : ℕ → Bool → Decimal
+valueOf n ended = cond (leb n 4294967295 && ended) (Value n) NoValue
 
 -- the digits on from a value read so far
-unfoldable pub budgetFrom : ℕ → List ℕ → Command
-budgetFrom n [] = runOf n true
-budgetFrom n (b ∷ t) = cond (isDigit b) (budgetFrom (n * 10 + (b - 48)) t) (runOf n (ends (b ∷ t)))
+unfoldable pub decimalFrom : ℕ → List ℕ → Decimal
+decimalFrom n [] = valueOf n true
+decimalFrom n (b ∷ t) = cond (isDigit b) (decimalFrom (n * 10 + (b - 48)) t) (valueOf n (ends (b ∷ t)))
 
 -- a digit or more; 0, which is none, stands for the byte past the end
-unfoldable pub budgetOf : List ℕ → Command
-budgetOf t = cond (isDigit (getD t 0 0)) (budgetFrom 0 t) Unknown
+unfoldable pub decimalOf : List ℕ → Decimal
+decimalOf t = cond (isDigit (getD t 0 0)) (decimalFrom 0 t) NoValue
 
+-- a run, by its budget
+abbrev pub runOf : Decimal → Command
+runOf (Value n) = Run n
+runOf NoValue = Unknown
+
+-- the commands with numbers behind their word
+unfoldable pub withNumbers : List ℕ → Command
+withNumbers line = cond (begins runWord line) (runOf (decimalOf (drop 4 line))) Unknown
+
+-- those that are a word alone, then those with numbers
 unfoldable pub commandOf : List ℕ → Command
 commandOf line =
     cond (ends line) Blank
@@ -63,4 +75,4 @@ commandOf line =
     (cond (says loadWord line) Load
     (cond (says endWord line) End
     (cond (says stepWord line) Step
-    (cond (says viewWord line) View (cond (begins runWord line) (budgetOf (drop 4 line)) Unknown))))))
+    (cond (says viewWord line) View (withNumbers line))))))

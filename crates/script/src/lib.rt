@@ -2,7 +2,7 @@
 ghost use mathlib.Core.Path.{_≡_};
 ghost use Prim.Native.Nat.{_+_, _*_, _≤_, _<_};
 ghost use lib.ListN.{length};
-ghost use Rattle.script.specs.Commands.{begins, says, isDigit, runOf, budgetOf, commandOf};
+ghost use Rattle.script.specs.Commands.{begins, says, isDigit, valueOf, decimalOf, runOf, withNumbers, commandOf};
 ghost use Rattle.script.specs.Script.{outside, isLoad, isEnd, inside, meaningOf, afterOutside, afterInside, placeAfter, followed, scriptOf, gave, scriptRead};
 ghost use Rattle.script.specs.ScriptParts.{scriptAt, Within, verdictOf, atEndAnswer, callsIn, put, Fits, callsWritten};
 
@@ -17,6 +17,12 @@ enum Command {
     Step,
     View,
     Unknown,
+}
+
+// A number in decimal digits, or none that can be read.
+enum Decimal {
+    Value(u32),
+    NoValue,
 }
 
 // Outside a load; or inside one, with the number of its line and the offset at which its listing starts.
@@ -96,17 +102,17 @@ fn is_digit(b: u8) -> bool
     b <= 57
 }
 
-// A value that a run can have, its digits followed by the end of the line or not.
-fn run_of(value: u64, ended: bool) -> Command
-    ensures { λ r. ⌜ r ≡ runOf value ended ⌝ }
+// A value, its digits followed by the end of the line or not.
+fn value_of(value: u64, ended: bool) -> Decimal
+    ensures { λ r. ⌜ r ≡ valueOf value ended ⌝ }
 {
     if 4294967295 < value {
-        return Command::Unknown;
+        return Decimal::NoValue;
     }
     if ended {
-        return Command::Run(value as u32);
+        return Decimal::Value(value as u32);
     }
-    Command::Unknown
+    Decimal::NoValue
 }
 
 fn wide(b: u8) -> u64
@@ -115,31 +121,51 @@ fn wide(b: u8) -> u64
     b as u64
 }
 
-// What follows `run` and its space: digits, then the end of the line. A value that has grown too large stays so.
-fn read_budget(s: &[u8]) -> Command
-    ensures { λ r. ⌜ r ≡ budgetOf (now (s .entry)) ⌝ }
+// Digits, then the end of the line. A value that has grown too large stays so.
+fn read_decimal(s: &[u8]) -> Decimal
+    ensures { λ r. ⌜ r ≡ decimalOf (now (s .entry)) ⌝ }
 {
     if s.len() == 0 {
-        return Command::Unknown;
+        return Decimal::NoValue;
     }
     if !is_digit(s[0]) {
-        return Command::Unknown;
+        return Decimal::NoValue;
     }
     let mut value: u64 = 0;
     let mut i = 0;
     while i < s.len() {
         if !is_digit(s[i]) {
-            return run_of(value, lines::line_ends(&s[i..]));
+            return value_of(value, lines::line_ends(&s[i..]));
         }
         value = value * 10 + wide(s[i] - 48);
         if 4294967295 < value {
-            return Command::Unknown;
+            return Decimal::NoValue;
         }
         i += 1;
     }
-    run_of(value, true)
+    value_of(value, true)
 }
 
+fn run_of(budget: Decimal) -> Command
+    ensures { λ r. ⌜ r ≡ runOf budget ⌝ }
+{
+    match budget {
+        Decimal::Value(n) => Command::Run(n),
+        Decimal::NoValue => Command::Unknown,
+    }
+}
+
+// The commands with numbers behind their word.
+fn read_with_numbers(line: &[u8]) -> Command
+    ensures { λ r. ⌜ r ≡ withNumbers (now (line .entry)) ⌝ }
+{
+    if begins_with(b"run ", line) {
+        return run_of(read_decimal(&line[4..]));
+    }
+    Command::Unknown
+}
+
+// The commands that are a word alone, then those with numbers.
 fn read_command(line: &[u8]) -> Command
     ensures { λ r. ⌜ r ≡ commandOf (now (line .entry)) ⌝ }
 {
@@ -161,10 +187,7 @@ fn read_command(line: &[u8]) -> Command
     if is_word(b"view", line) {
         return Command::View;
     }
-    if begins_with(b"run ", line) {
-        return read_budget(&line[4..]);
-    }
-    Command::Unknown
+    read_with_numbers(line)
 }
 
 fn outside_load(command: Command) -> Meaning
