@@ -1,10 +1,14 @@
-// Scripts: calls as lines of text, read into the numbers that replay::replay takes.
+// Scripts: calls as lines of text, read into the numbers that replay::replay takes, and listings among them.
 ghost use mathlib.Core.Path.{_≡_};
 ghost use Prim.Native.Nat.{_+_, _*_, _≤_, _<_};
 ghost use lib.ListN.{length};
-ghost use Rattle.script.specs.Commands.{begins, says, isDigit, valueOf, decimalOf, runOf, withNumbers, commandOf};
+ghost use Rattle.script.specs.Commands.{begins, says, isDigit, valueOf, decimalOf, runOf, listingOf, listingAt, withNumbers, commandOf};
 ghost use Rattle.script.specs.Script.{outside, isLoad, isEnd, inside, meaningOf, afterOutside, afterInside, placeAfter, followed, scriptOf, gave, scriptRead};
 ghost use Rattle.script.specs.ScriptParts.{scriptAt, Within, verdictOf, atEndAnswer, callsIn, put, Fits, callsWritten};
+
+// The case of a listing among the numbers of a script: its address and its count follow. The cases of replay::replay are below 100; from
+// there on they are the script's own.
+pub const LISTING: u64 = 100;
 
 // What one line says.
 enum Command {
@@ -16,6 +20,7 @@ enum Command {
     Run(u32),
     Step,
     View,
+    Listing { first: u16, count: u32 },
     Unknown,
 }
 
@@ -31,7 +36,7 @@ enum Place {
     Inside { number: usize, from: usize },
 }
 
-// What a line comes to at its place: a call is the three numbers of replay::replay.
+// What a line comes to at its place: a call is the three numbers of replay::replay, or those of a listing.
 enum Meaning {
     Nothing,
     Call { kind: u64, first: u64, second: u64 },
@@ -155,12 +160,44 @@ fn run_of(budget: Decimal) -> Command
     }
 }
 
+// A listing, given its address, the byte behind it and its count.
+fn listing_of(first: u32, between: u8, count: Decimal) -> Command
+    ensures { λ r. ⌜ r ≡ listingOf first between count ⌝ }
+{
+    let Decimal::Value(n) = count else {
+        return Command::Unknown;
+    };
+    if 65536 <= first {
+        return Command::Unknown;
+    }
+    if between != b' ' {
+        return Command::Unknown;
+    }
+    Command::Listing {
+        first: first as u16,
+        count: n,
+    }
+}
+
+// What follows `listing` and its space.
+fn read_listing(s: &[u8]) -> Command
+    ensures { λ r. ⌜ r ≡ listingAt (now (s .entry)) ⌝ }
+{
+    if s.len() < 5 {
+        return Command::Unknown;
+    }
+    listing_of(lines::front_number(s), s[4], read_decimal(&s[5..]))
+}
+
 // The commands with numbers behind their word.
 fn read_with_numbers(line: &[u8]) -> Command
     ensures { λ r. ⌜ r ≡ withNumbers (now (line .entry)) ⌝ }
 {
     if begins_with(b"run ", line) {
         return run_of(read_decimal(&line[4..]));
+    }
+    if begins_with(b"listing ", line) {
+        return read_listing(&line[8..]);
     }
     Command::Unknown
 }
@@ -217,6 +254,11 @@ fn outside_load(command: Command) -> Meaning
             first: 0,
             second: 0,
         },
+        Command::Listing { first, count } => Meaning::Call {
+            kind: LISTING,
+            first: first as u64,
+            second: count as u64,
+        },
         Command::Unknown => Meaning::Unreadable,
     }
 }
@@ -245,6 +287,7 @@ fn opens(command: Command) -> bool
         Command::Run(_) => false,
         Command::Step => false,
         Command::View => false,
+        Command::Listing { first: _, count: _ } => false,
         Command::Unknown => false,
     }
 }
@@ -260,6 +303,7 @@ fn closes(command: Command) -> bool
         Command::Run(_) => false,
         Command::Step => false,
         Command::View => false,
+        Command::Listing { first: _, count: _ } => false,
         Command::Unknown => false,
     }
 }
