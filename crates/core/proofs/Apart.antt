@@ -6,7 +6,7 @@ use native.Mathlib.Omega.{arith}
 use lib.Dec.{lit≤}
 use Rattle.refusals.specs.Refusals.{refusalNumber}
 use Rattle.refusals.specs.declared.Refusal.{Refusal}
-use Rattle.refusals.specs.declared.Refusal.the-variants.{WrongLength, WrongCycle, Stopped, ClockFull}
+use Rattle.refusals.specs.declared.Refusal.the-variants.{WrongLength, WrongCycle, Stopped, ClockFull, ShortText}
 use Rattle.refusals.proofs.Apart.{numbers-apart}
 use Rattle.listing.specs.Answers.{faultNumber}
 use Rattle.listing.specs.declared.Fault.{Fault}
@@ -70,6 +70,7 @@ no-fault WrongLength n (low, high) e = omega arith
 no-fault WrongCycle n (low, high) e = omega arith
 no-fault Stopped n (low, high) e = omega arith
 no-fault ClockFull n (low, high) e = omega arith
+no-fault ShortText n (low, high) e = omega arith
 
 pub read-apart : ReadApart
 read-apart = (load-apart, run-apart, view-apart, λ why fault e. no-fault why (faultNumber fault) (fault-range fault) e)

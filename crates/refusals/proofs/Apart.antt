@@ -6,11 +6,12 @@ use lib.Dec.{eqb}
 use Rattle.refusals.specs.Refusals.{refusalNumber}
 use Rattle.refusals.specs.Theorems.{NumbersApart}
 use Rattle.refusals.specs.declared.Refusal.{Refusal}
-use Rattle.refusals.specs.declared.Refusal.the-variants.{WrongLength, WrongCycle, Stopped, ClockFull}
+use Rattle.refusals.specs.declared.Refusal.the-variants.{WrongLength, WrongCycle, Stopped, ClockFull, ShortText}
 
 -- the refusal of a number
 abbrev refusalFrom : ℕ → Refusal
-refusalFrom n = cond (eqb n 1) WrongLength (cond (eqb n 7) WrongCycle (cond (eqb n 8) Stopped ClockFull))
+refusalFrom n =
+    cond (eqb n 1) WrongLength (cond (eqb n 7) WrongCycle (cond (eqb n 8) Stopped (cond (eqb n 9) ClockFull ShortText)))
 
 -- a refusal comes back from its number
 refusal-back : (why : Refusal) → refusalFrom (refusalNumber why) ≡ why
@@ -18,6 +19,7 @@ refusal-back WrongLength = refl
 refusal-back WrongCycle = refl
 refusal-back Stopped = refl
 refusal-back ClockFull = refl
+refusal-back ShortText = refl
 
 pub numbers-apart : NumbersApart
 numbers-apart x y e = sym (refusal-back x) ∙ ap refusalFrom e ∙ refusal-back y

@@ -13,7 +13,7 @@ use Rattle.refusals.specs.Theorems.{First, NoneApplies, Means, MeanAll, 
 use Rattle.refusals.specs.declared.Verdict.{Verdict}
 use Rattle.refusals.specs.declared.Verdict.the-variants as verdict
 use Rattle.refusals.specs.declared.Refusal.{Refusal}
-use Rattle.refusals.specs.declared.Refusal.the-variants.{WrongLength, WrongCycle, Stopped, ClockFull}
+use Rattle.refusals.specs.declared.Refusal.the-variants.{WrongLength, WrongCycle, Stopped, ClockFull, ShortText}
 
 pub clash : {b : Bool} → b ≡ true → b ≡ false → ⊥
 clash t f = let z : _≡_ {A = ℕ} 0 1 = cc in omega arith
@@ -100,6 +100,7 @@ has-number WrongLength e = omega arith
 has-number WrongCycle e = omega arith
 has-number Stopped e = omega arith
 has-number ClockFull e = omega arith
+has-number ShortText e = omega arith
 
 -- '1: L is 0 or above 65,536'
 length-by : (L : ℕ) (zero long : Bool) → eqb L 0 ≡ zero → ltb 65536 L ≡ long → Means (cond zero true long) ((L ≡ 0) ⊎ (65536 < L))

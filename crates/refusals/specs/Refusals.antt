@@ -5,17 +5,18 @@ use mathlib.Core.List.{List, [], _∷_}
 use Prim.Native.Nat.{ℕ}
 use lib.Dec.{eqb, ltb}
 use Rattle.refusals.specs.declared.Refusal.{Refusal}
-use Rattle.refusals.specs.declared.Refusal.the-variants.{WrongLength, WrongCycle, Stopped, ClockFull}
+use Rattle.refusals.specs.declared.Refusal.the-variants.{WrongLength, WrongCycle, Stopped, ClockFull, ShortText}
 use Rattle.refusals.specs.declared.Verdict.{Verdict}
 use Rattle.refusals.specs.declared.Verdict.the-variants.{Taken, Refused}
 
 -- '1: L is 0 or above 65,536 ..', '7: cycle due is not 1 .., or outside 1 to 4 ..', '8: stopped ..', '9: clock plus b .. exceeds
--- 4,294,967,295'
+-- 4,294,967,295'; document 02, note 1: '10 when the lent text is shorter ..'
 abbrev pub refusalNumber : Refusal → ℕ
 refusalNumber WrongLength = 1
 refusalNumber WrongCycle = 7
 refusalNumber Stopped = 8
 refusalNumber ClockFull = 9
+refusalNumber ShortText = 10
 
 -- '1: L is 0 or above 65,536'
 abbrev pub wrongLength : ℕ → Bool

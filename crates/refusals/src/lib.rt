@@ -3,12 +3,13 @@ ghost use mathlib.Core.Path.{_≡_};
 ghost use Rattle.refusals.specs.Refusals.{refusalNumber, wrongLength, orElse};
 ghost use Rattle.refusals.specs.declared.Verdict.the-variants.{Taken};
 
-// Numbers 1, 7, 8 and 9.
+// Numbers 1, 7, 8, 9 and 10.
 pub enum Refusal {
     WrongLength,
     WrongCycle,
     Stopped,
     ClockFull,
+    ShortText,
 }
 
 // What a call finds before it starts.
@@ -17,7 +18,7 @@ pub enum Verdict {
     Refused(Refusal),
 }
 
-// The numbers of document 01.
+// The numbers of documents 01 and 02.
 pub fn number(why: Refusal) -> u8
     ensures { λ r. ⌜ r ≡ refusalNumber why ⌝ }
 {
@@ -26,6 +27,7 @@ pub fn number(why: Refusal) -> u8
         Refusal::WrongCycle => 7,
         Refusal::Stopped => 8,
         Refusal::ClockFull => 9,
+        Refusal::ShortText => 10,
     }
 }
 
