@@ -165,9 +165,9 @@ fn play(page: &mut [u8], calls: &[u64], input: &[u8], memory: &mut [u16]) -> usi
     at
 }
 
-fn put_line(page: &mut [u8], before: &[u8], n: usize, after: &[u8]) -> usize {
-    let at = output::put_number(page, 0, before, n as u64);
-    output::put(page, at, after)
+fn put_unreadable(page: &mut [u8], line: usize) -> usize {
+    let at = output::put_number(page, 0, b"line ", line as u64);
+    output::put(page, at, b" cannot be read\n")
 }
 
 // Plays a script, with lent room for its calls, and answers how many bytes are on the page.
@@ -179,7 +179,7 @@ fn play_script(page: &mut [u8], input: &[u8], calls: &mut [u64]) -> usize {
             let numbers = count * 3;
             play(page, &calls[..numbers], input, &mut memory)
         }
-        ScriptAnswer::Unreadable(line) => put_line(page, b"line ", line, b" cannot be read\n"),
+        ScriptAnswer::Unreadable(line) => put_unreadable(page, line),
         ScriptAnswer::NoRoom => output::put(page, 0, b"too many calls\n"),
     }
 }
