@@ -74,9 +74,14 @@ pub ends-by-byte : (t : List ℕ) → (length t ≡ 0 → ⊥) → nothingOrComm
 ends-by-byte [] n = absurd (n refl)
 ends-by-byte (b ∷ t) n = refl
 
--- a line of fewer than nine bytes has no digit at its ninth place
+-- no number stands at a place with fewer than four bytes from there on
+pub no-four : (line : List ℕ) (i : ℕ) → length line < i + 4 → numberAt line i ≡ 65536
+unfolding numberAt fourDigits digitValue
+no-four line i h =
+    let e : getD line (i + 3) 0 ≡ 0 = List·getD-eq-default line 0 (omega arith) in
+    rw (e, and-false)
+
+-- so a line of fewer than nine bytes has no word
 pub too-short : (line : List ℕ) → length line < 9 → entryOf line ≡ IllFormed
-unfolding entryOf entryFrom numberAt fourDigits digitValue
-too-short line h =
-    let e : getD line 8 0 ≡ 0 = List·getD-eq-default line 0 (omega arith) in
-    rw (e, and-false, and-false)
+unfolding entryOf entryFrom
+too-short line h = rw (no-four line 5 h, and-false)

@@ -152,6 +152,16 @@ pub fn read_line(rest: &[u8]) -> Read
     }
 }
 
+// The number that the first four bytes write in hexadecimal; 65,536 where they are not four digits, or there are fewer.
+pub fn front_number(text: &[u8]) -> u32
+    ensures { λ r. ⌜ r ≡ numberAt (now (text .entry)) 0 ⌝ }
+{
+    if 4 <= text.len() {
+        return address_of(text);
+    }
+    65536
+}
+
 // What follows from a place on; an empty part where that is past the end.
 fn part_from(s: &[u8], i: usize) -> &[u8]
     ensures text { λ r. ⌜ now r ≡ drop i (now (s .entry)) ⌝ }

@@ -1,19 +1,23 @@
 -- Lists of calls given as data: how a list is read, and what a replay of it gives. The contract of `replay` is an equation with
--- `replayed`, which plays the list on the instruction machine.
+-- `replayed`, which plays the list on the instruction machine; that of `play_call`, for a single call on a core, one with `callPlayed`.
 use mathlib.Core.Bool.{cond}
 use mathlib.Core.List.{List, [], _∷_, _++_}
 use Prim.Native.Nat.{ℕ, _+_, _-_, _*_}
 use lib.Dec.{eqb, leb}
-use lib.ListN.{length, take, drop}
+use lib.ListN.{length, take, drop, replicate}
 use Rattle.core.specs.Calls.{Answer}
-use Rattle.layout.specs.Layout.{answerSize, answerNumbers, leftNumbers, onto}
+use Rattle.core.specs.declared.Core.{Core}
+use Rattle.layout.specs.Layout.{answerSize, answerNumbers, leftNumbers, onto, NumberedReply, numbered}
 use Rattle.plays.specs.Plays.{play}
 use Rattle.machine.specs.Machine.{Machine, cyclesOf, freshMachine}
-use Rattle.machine.specs.Theorem.{Call, reset, load, run, step, view, onMachine}
+use Rattle.machine.specs.Theorem.{Call, reset, load, run, step, view, replyTo, onMachine}
 use Rattle.replay.specs.declared.ListedCall.{ListedCall}
 use Rattle.replay.specs.declared.ListedCall.the-variants as listedCall
 use Rattle.replay.specs.declared.ReadCall.{ReadCall}
 use Rattle.replay.specs.declared.ReadCall.the-variants as readAs
+use Rattle.replay.specs.declared.CallAnswer.{CallAnswer}
+use Rattle.replay.specs.declared.CallAnswer.the-variants as callAnswer
+use Rattle.replay.specs.declared.CallReply.{CallReply}
 use Rattle.replay.specs.declared.ReplayAnswer.{ReplayAnswer}
 use Rattle.replay.specs.declared.ReplayAnswer.the-variants.{Played, NoCall, NoStretch, NoRoom}
 
@@ -40,6 +44,25 @@ callOf text (listedCall.Load from to) = load (take (to - from) (drop from text))
 callOf text (listedCall.Run b) = run b
 callOf text listedCall.Step = step
 callOf text listedCall.View = view
+
+-- what a single call gives back: its answer, and the numbers, the next core and the lent memory as it then is
+pub record CallPlayed : Type 0 where
+  pub answer : CallAnswer
+  pub reply : NumberedReply
+
+abbrev pub callGave : CallReply → List ℕ → CallPlayed
+callGave r memory = record { answer = r .answer; reply = record { numbers = r .numbers; core = r .core; memory = memory } }
+
+-- core and memory stay, and the numbers are zero
+abbrev pub kept : CallAnswer → Core → List ℕ → CallPlayed
+kept answer core memory = record { answer = answer; reply = record { numbers = replicate answerSize 0; core = core; memory = memory } }
+
+-- what is read as a call replies as that call does; anything else is not played
+abbrev pub callPlayed : List ℕ → ReadCall → Core → List ℕ → CallPlayed
+callPlayed text (readAs.Read call) core memory =
+    record { answer = callAnswer.Played; reply = numbered (replyTo (callOf text call) core memory) }
+callPlayed text readAs.NoCall core memory = kept callAnswer.NoCall core memory
+callPlayed text readAs.NoStretch core memory = kept callAnswer.NoStretch core memory
 
 -- what a list is read as: its calls; or the index, from 0, of the first that is no call, or whose stretch is not in the text
 pub data Reading : Type 0 where

@@ -1,11 +1,11 @@
 // Replay plays a list of calls that is given as data, and answers as the instruction machine of document 01 does.
 ghost use mathlib.Core.Path.{_≡_};
-ghost use mathlib.Core.List.{_++_};
+ghost use mathlib.Core.List.{List, _++_};
 ghost use Prim.Native.Nat.{ℕ, _≤_};
 ghost use lib.ListN.{length, take, drop};
 ghost use Rattle.layout.specs.Layout.{ontoIfRoom, numbered, gave};
 ghost use Rattle.machine.specs.Theorem.{replyTo};
-ghost use Rattle.replay.specs.Replay.{readStretch, readBudget, readCall, callOf, readCalls, replayed, replayGave};
+ghost use Rattle.replay.specs.Replay.{readStretch, readBudget, readCall, callOf, callGave, kept, callPlayed, readCalls, replayed, replayGave};
 ghost use Rattle.replay.specs.ReplayParts.{frontCall, verdictOf, FitsIn, ReadFits, ReadWhole, Playable, corePlayed, afterPlay};
 use core::Core;
 use layout::Numbered;
@@ -33,6 +33,20 @@ pub enum ReplayAnswer {
     NoCall(usize),
     NoStretch(usize),
     NoRoom,
+}
+
+// Of a single call: it was played; or it is none of the five; or it names no stretch of the text.
+pub enum CallAnswer {
+    Played,
+    NoCall,
+    NoStretch,
+}
+
+// The next core, and what was answered, with its numbers.
+pub struct CallReply {
+    pub core: Core,
+    pub answer: CallAnswer,
+    pub numbers: [u64; 23],
 }
 
 fn read_stretch(first: u64, second: u64, size: usize) -> ReadCall
@@ -128,6 +142,45 @@ fn play(core: Core, call: ListedCall, text: &[u8], memory: &mut [u16]) -> Number
         ListedCall::Run(b) => layout::run(core, b, memory),
         ListedCall::Step => layout::step(core, memory),
         ListedCall::View => layout::view(core),
+    }
+}
+
+fn not_played(core: Core, answer: CallAnswer) -> CallReply
+    ensures { λ r. ⌜ ((memory : List ℕ) → callGave r memory ≡ kept answer core memory) ⌝ }
+{
+    CallReply {
+        core: core,
+        answer: answer,
+        numbers: [0; 23],
+    }
+}
+
+// Plays one call of a list on a core, for callers who go call by call. Where the three numbers are no call, or name no stretch of the
+// text, core and memory stay and the numbers are zero.
+pub fn play_call(
+    core: Core,
+    kind: u64,
+    first: u64,
+    second: u64,
+    text: &[u8],
+    memory: &mut [u16],
+) -> CallReply
+    ensures { λ r. ⌜ callGave r (now (memory .exit)) ≡ callPlayed (now (text .entry)) (readCall kind first second (length (now (text .entry)))) core (now (memory .entry)) ⌝ }
+{
+    let read = read_call(kind, first, second, text.len());
+    match read {
+        ReadCall::Read(call) => {
+            let played = play(core, call, text, memory);
+            let next = played.core;
+            let numbers = played.numbers;
+            CallReply {
+                core: next,
+                answer: CallAnswer::Played,
+                numbers: numbers,
+            }
+        }
+        ReadCall::NoCall => not_played(core, CallAnswer::NoCall),
+        ReadCall::NoStretch => not_played(core, CallAnswer::NoStretch),
     }
 }
 

@@ -1,6 +1,6 @@
 -- Laws on the lines and calls of a script, and its theorems.
 pub mod Words
-pub mod Budgets
+pub mod Decimals
 pub mod Turns
 pub mod Writes
 pub mod Theorems

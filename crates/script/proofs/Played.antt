@@ -9,19 +9,19 @@ use lib.ListN.{length, take, drop}
 use Rattle.lines.specs.Lines.{lines}
 use Rattle.lines.specs.Theorems.{startAfter}
 use Rattle.machine.specs.Theorem.{Call, reset, load, run, step, view}
-use Rattle.replay.specs.Replay.{readCall, Reading, listed, following, readThen, readFrom}
+use Rattle.replay.specs.Replay.{readFrom}
 use Rattle.script.specs.Commands.{commandOf}
-use Rattle.script.specs.Script.{isLoad, isEnd, inside, meaningOf, afterOutside, afterInside, placeAfter, Script, calls, unreadable, call, followed, scriptFrom, scriptOf, numbersOf}
+use Rattle.script.specs.Script.{isLoad, isEnd, inside, meaningOf, afterOutside, afterInside, placeAfter, Script, calls, unreadable, call, followed, scriptFrom, scriptOf}
 use Rattle.script.specs.Script as script
-use Rattle.script.specs.Played.{Opened, free, loading, said, openedAfter, meant, ScriptPlayed}
+use Rattle.script.specs.Played.{Asked, called, listing, Opened, free, loading, said, openedAfter, meant, ReadAs, AllReadAs, ScriptPlayed}
 use Rattle.script.specs.declared.Command.{Command}
-use Rattle.script.specs.declared.Command.the-variants.{Blank, Reset, Load, End, Run, Step, View, Unknown}
+use Rattle.script.specs.declared.Command.the-variants.{Blank, Reset, Load, End, Run, Step, View, Listing, Unknown}
 use Rattle.script.specs.declared.Place.{Place}
 use Rattle.script.specs.declared.Place.the-variants.{Outside, Inside}
 use Rattle.script.specs.declared.Meaning.{Meaning}
 use Rattle.script.specs.declared.Meaning.the-variants as meaning
 use Rattle.script.proofs.Writes.{not-calls}
-use Rattle.script.proofs.Theorems.{Budget, command-fair, Before, lines-bytes}
+use Rattle.script.proofs.Theorems.{Bounded, command-fair, Before, lines-bytes}
 
 -- a place, by the offset alone
 abbrev openedAt : Place → Opened
@@ -52,61 +52,59 @@ module _ (number next : ℕ) where
     by false = omega arith
 
 module _ (text : List ℕ) where
-  -- a line's numbers are read as what it says
-  Means : Meaning → List Call → Type 0
+  -- a line's numbers are read as what it asks for
+  Means : Meaning → List Asked → Type 0
   Means meaning.Nothing s = s ≡ []
-  Means (meaning.Call kind first second) s =
-      (c : Call)
-      × ((i : ℕ) (rest : Reading) → readThen text i (readCall kind first second (length text)) rest ≡ following c rest)
-      × (s ≡ c ∷ [])
+  Means (meaning.Call kind first second) s = (asked : Asked) × ReadAs text (call kind first second) asked × (s ≡ asked ∷ [])
   Means meaning.Unreadable s = Unit
 
-  means : (place : Place) (command : Command) (start : ℕ) → Budget command → Before place start → start ≤ length text
+  means : (place : Place) (command : Command) (start : ℕ) → Bounded command → Before place start → start ≤ length text
       → Means (meaningOf place command start) (said text (openedAt place) command start)
-  unfolding Means
+  unfolding Means readFrom
   means Outside Blank start s b h = refl
-  means Outside Reset start s b h = (reset, (λ i rest. refl), refl)
+  means Outside Reset start s b h = (called reset, refl, refl)
   means Outside Load start s b h = refl
   means Outside End start s b h = tt
-  means Outside (Run n) start s b h = (run n, (λ i rest. rw (le-leb n 4294967295 s)), refl)
-  means Outside Step start s b h = (step, (λ i rest. refl), refl)
-  means Outside View start s b h = (view, (λ i rest. refl), refl)
+  means Outside (Run n) start s b h = (called (run n), rw (le-leb n 4294967295 s), refl)
+  means Outside Step start s b h = (called step, refl, refl)
+  means Outside View start s b h = (called view, refl, refl)
+  means Outside (Listing first count) start s b h = (listing first count, (refl, refl, refl), refl)
   means Outside Unknown start s b h = tt
   means (Inside number from) command start s b h = by (isEnd command) where
-    by : (t : Bool) → Means (inside t from start) (cond t (load (take (start - from) (drop from text)) ∷ []) [])
-    by true = (load (take (start - from) (drop from text)), (λ i rest. rw (le-leb from start b, le-leb start (length text) h)), refl)
+    by : (t : Bool) → Means (inside t from start) (cond t (called (load (take (start - from) (drop from text))) ∷ []) [])
+    by true = (called (load (take (start - from) (drop from text))), rw (le-leb from start b, le-leb start (length text) h), refl)
     by false = refl
 
   -- a line more
-  one-more : (m : Meaning) (s : List Call) (number : ℕ) (x : Script) (more : List Call) → Means m s
-      → ((i : ℕ) (cs : List script.Call) → x ≡ calls cs → readFrom text i (numbersOf cs) ≡ listed more)
-      → (i : ℕ) (cs : List script.Call) → followed m number x ≡ calls cs → readFrom text i (numbersOf cs) ≡ listed (s ++ more)
-  unfolding Means readFrom numbersOf
-  one-more meaning.Nothing s number x more r ih i cs e = rw r (ih i cs e)
-  one-more (meaning.Call kind first second) s number (calls left) more r ih i cs e =
-      let split : cs ≡ call kind first second ∷ left = cc in rw (split, r .2, r .1 i (readFrom text (i + 1) (numbersOf left)), ih (i + 1) left refl)
-  one-more (meaning.Call kind first second) s number (unreadable k) more r ih i cs e = absurd (not-calls e)
-  one-more meaning.Unreadable s number x more r ih i cs e = absurd (not-calls e)
+  one-more : (m : Meaning) (s : List Asked) (number : ℕ) (x : Script) (more : List Asked) → Means m s
+      → ((cs : List script.Call) → x ≡ calls cs → AllReadAs text cs more)
+      → (cs : List script.Call) → followed m number x ≡ calls cs → AllReadAs text cs (s ++ more)
+  unfolding Means AllReadAs
+  one-more meaning.Nothing s number x more r ih cs e = rw r (ih cs e)
+  one-more (meaning.Call kind first second) s number (calls left) more r ih cs e =
+      let split : cs ≡ call kind first second ∷ left = cc in rw (split, r .2) (r .1, ih left refl)
+  one-more (meaning.Call kind first second) s number (unreadable k) more r ih cs e = absurd (not-calls e)
+  one-more meaning.Unreadable s number x more r ih cs e = absurd (not-calls e)
 
   played : (ls : List (List ℕ)) (place : Place) (number start : ℕ) → start + startAfter ls ≤ length text + 1 → Before place start
-      → (i : ℕ) (cs : List script.Call) → scriptFrom place number start ls ≡ calls cs
-      → readFrom text i (numbersOf cs) ≡ listed (meant text (openedAt place) start ls)
-  unfolding scriptFrom meant startAfter readFrom numbersOf
-  played [] Outside number start h b i cs e = let none : cs ≡ [] = cc in rw none
-  played [] (Inside opener from) number start h b i cs e = absurd (not-calls e)
-  played (line ∷ rest) place number start h b i cs e =
+      → (cs : List script.Call) → scriptFrom place number start ls ≡ calls cs
+      → AllReadAs text cs (meant text (openedAt place) start ls)
+  unfolding scriptFrom meant startAfter AllReadAs
+  played [] Outside number start h b cs e = let none : cs ≡ [] = cc in rw none tt
+  played [] (Inside opener from) number start h b cs e = absurd (not-calls e)
+  played (line ∷ rest) place number start h b cs e =
       let next = start + length line + 1 in
       let command = commandOf line in
       one-more (meaningOf place command start) (said text (openedAt place) command start) number
       (scriptFrom (placeAfter place command number next) (number + 1) next rest)
       (meant text (openedAfter (openedAt place) command next) next rest)
       (means place command start (command-fair line .small) b (omega arith))
-      (λ j left r.
+      (λ left r.
       rw (← opened-after number next place command)
       (played rest (placeAfter place command number next) (number + 1) next (omega arith)
-      (before-after number next place command start (omega arith) b) j left r))
-      i cs e
+      (before-after number next place command start (omega arith) b) left r))
+      cs e
 
 pub script-played : ScriptPlayed
 unfolding scriptOf
-script-played text cs e = played text (lines text) Outside 1 0 (omega (arith, lines-bytes text)) tt 0 cs e
+script-played text cs e = played text (lines text) Outside 1 0 (omega (arith, lines-bytes text)) tt cs e

@@ -1,22 +1,26 @@
 -- Theorems of specs/Theorems.antt: by one induction over the lines. Assumes nothing.
 use mathlib.Core.Path.{_≡_, refl, subst}
+use mathlib.Core.Logic.{inl, inr}
 use mathlib.Core.Bool.{Bool, true, false, cond, _&&_}
 use mathlib.Core.List.{List, [], _∷_}
-use Prim.Native.Nat.{ℕ, suc, _+_, _-_, _*_, _≤_}
+use Prim.Native.Nat.{ℕ, suc, _+_, _*_, _≤_}
 use native.Mathlib.Omega.{arith}
-use borrow.Author.Tests.{leb-true}
-use lib.Dec.{eqb, leb, lit≤}
-use lib.ListN.{length, getD, drop}
-use Rattle.lines.specs.Lines.{lineFeed, prepend, lines, ends}
+use borrow.Author.Tests.{ltb-true}
+use lib.Dec.{eqb, ltb, lit≤}
+use lib.ListN.{length, drop}
+use Rattle.lines.specs.Lines.{lineFeed, space, prepend, lines, ends}
 use Rattle.lines.specs.Theorems.{startAfter}
-use Rattle.script.specs.Commands.{resetWord, loadWord, endWord, stepWord, viewWord, runWord, begins, says, isDigit, runOf, budgetFrom, budgetOf, commandOf}
+use Rattle.script.specs.Commands.{resetWord, loadWord, endWord, stepWord, viewWord, runWord, listingWord, begins, says, decimalOf, runOf, listingOf, listingAt, withNumbers, commandOf}
 use Rattle.script.specs.Script.{meaningOf, placeAfter, Call, call, Script, calls, unreadable, called, followed, atEnd, scriptFrom, scriptOf}
 use Rattle.script.specs.Theorems.{FewCalls, IsCall, AllCalls, EachIsCall}
 use Rattle.script.specs.declared.Command.{Command}
-use Rattle.script.specs.declared.Command.the-variants.{Blank, Reset, Load, End, Run, Step, View, Unknown}
+use Rattle.script.specs.declared.Command.the-variants.{Blank, Reset, Load, End, Run, Step, View, Listing, Unknown}
+use Rattle.script.specs.declared.Decimal.{Decimal}
+use Rattle.script.specs.declared.Decimal.the-variants.{Value, NoValue}
 use Rattle.script.specs.declared.Place.{Place}
 use Rattle.script.specs.declared.Place.the-variants.{Outside, Inside}
 use Rattle.script.proofs.Words.{begins-length}
+use Rattle.script.proofs.Decimals.{Small, decimal-small}
 use Rattle.script.proofs.Writes.{not-calls}
 
 -- how many bytes a command has at least, as far as is asked here
@@ -28,22 +32,25 @@ needed End = 0
 needed (Run b) = 4
 needed Step = 4
 needed View = 4
+needed (Listing first count) = 4
 needed Unknown = 0
 
-abbrev pub Budget : Command → Type 0
-Budget Blank = Unit
-Budget Reset = Unit
-Budget Load = Unit
-Budget End = Unit
-Budget (Run b) = b ≤ 4294967295
-Budget Step = Unit
-Budget View = Unit
-Budget Unknown = Unit
+-- a budget and a count have 32 bits, an address 16
+abbrev pub Bounded : Command → Type 0
+Bounded Blank = Unit
+Bounded Reset = Unit
+Bounded Load = Unit
+Bounded End = Unit
+Bounded (Run b) = b ≤ 4294967295
+Bounded Step = Unit
+Bounded View = Unit
+Bounded (Listing first count) = (first ≤ 65535) × (count ≤ 4294967295)
+Bounded Unknown = Unit
 
 -- a command that a line of n bytes can say
 pub record Fair (k : Command) (n : ℕ) : Type 0 where
   pub long : needed k ≤ n
-  pub small : Budget k
+  pub small : Bounded k
 
 none : (n : ℕ) → Fair Unknown n
 none n = record { long = omega arith; small = tt }
@@ -52,22 +59,9 @@ when : (b : Bool) {x y : Command} {n : ℕ} → (b ≡ true → Fair x n) → Fa
 when true f g = f refl
 when false f g = g
 
-run-fair : (v : ℕ) (ended : Bool) {n : ℕ} → 4 ≤ n → Fair (runOf v ended) n
-unfolding runOf
-run-fair v ended {n} h = by (leb v 4294967295) refl ended where
-  by : (b : Bool) → leb v 4294967295 ≡ b → (ended : Bool) → Fair (cond (b && ended) (Run v) Unknown) n
-  by true e true = record { long = h; small = leb-true v 4294967295 e }
-  by true e false = none n
-  by false e ended = none n
-
-digits-fair : (v : ℕ) (t : List ℕ) {n : ℕ} → 4 ≤ n → Fair (budgetFrom v t) n
-unfolding budgetFrom
-digits-fair v [] h = run-fair v true h
-digits-fair v (b ∷ t) h = when (isDigit b) (λ d. digits-fair (v * 10 + (b - 48)) t h) (run-fair v (ends (b ∷ t)) h)
-
-budget-fair : (t : List ℕ) {n : ℕ} → 4 ≤ n → Fair (budgetOf t) n
-unfolding budgetOf
-budget-fair t {n} h = when (isDigit (getD t 0 0)) (λ d. digits-fair 0 t h) (none n)
+run-fair : (d : Decimal) {n : ℕ} → Small d → 4 ≤ n → Fair (runOf d) n
+run-fair (Value v) s h = record { long = h; small = s }
+run-fair NoValue {n} s h = none n
 
 says-length : (word line : List ℕ) → says word line ≡ true → length word ≤ length line
 unfolding says
@@ -75,6 +69,22 @@ says-length word line = by (begins word line) refl where
   by : (b : Bool) → begins word line ≡ b → b && ends (drop (length word) line) ≡ true → length word ≤ length line
   by true e t = begins-length word line e
   by false e t = let z : _≡_ {A = ℕ} 0 1 = cc in absurd (omega arith)
+
+listing-fair : (first between : ℕ) (d : Decimal) {n : ℕ} → Small d → 4 ≤ n → Fair (listingOf first between d) n
+listing-fair first between NoValue {n} s h = none n
+listing-fair first between (Value count) {n} s h = by (ltb first 65536) refl (eqb between space) where
+  by : (p : Bool) → ltb first 65536 ≡ p → (q : Bool) → Fair (cond (p && q) (Listing first count) Unknown) n
+  by true e true = record { long = h; small = (omega (arith, ltb-true first 65536 e), s) }
+  by true e false = none n
+  by false e q = none n
+
+numbers-fair : (line : List ℕ) → Fair (withNumbers line) (length line)
+unfolding withNumbers listingAt
+numbers-fair line =
+    when (begins runWord line) (λ e. run-fair (decimalOf (drop 4 line)) (decimal-small (drop 4 line)) (begins-length runWord line e))
+    (when (begins listingWord line)
+    (λ e. listing-fair _ _ (decimalOf (drop 5 (drop 8 line))) (decimal-small (drop 5 (drop 8 line))) (omega (arith, begins-length listingWord line e)))
+    (none (length line)))
 
 pub command-fair : (line : List ℕ) → Fair (commandOf line) (length line)
 unfolding commandOf
@@ -84,8 +94,7 @@ command-fair line =
     (when (says loadWord line) (λ e. record { long = says-length loadWord line e; small = tt })
     (when (says endWord line) (λ e. record { long = omega arith; small = tt })
     (when (says stepWord line) (λ e. record { long = says-length stepWord line e; small = tt })
-    (when (says viewWord line) (λ e. record { long = says-length viewWord line e; small = tt })
-    (when (begins runWord line) (λ e. budget-fair (drop 4 line) (begins-length runWord line e)) (none (length line))))))))
+    (when (says viewWord line) (λ e. record { long = says-length viewWord line e; small = tt }) (numbers-fair line))))))
 
 -- a load that is open starts before the place reached, and its own line has paid for its call
 abbrev pub Before : Place → ℕ → Type 0
@@ -102,6 +111,11 @@ record Good (size bytes : ℕ) (cs : List Call) : Type 0 where
   each : AllCalls size cs
 
 module _ (size : ℕ) where
+  -- one of the five calls
+  plain : (kind : ℕ) {first second : ℕ} → kind ≤ 4 → (kind ≡ 1 → (first ≤ second) × (second ≤ size)) → (kind ≡ 2 → first ≤ 4294967295)
+      → IsCall size (call kind first second)
+  plain kind h stretch budget = (inl h, stretch, budget, λ z. absurd (omega arith))
+
   at-end : (place : Place) (cs : List Call) → atEnd place ≡ calls cs → Good size (paid place) cs
   unfolding AllCalls
   at-end Outside cs e = let none : [] ≡ cs = cc in subst (Good size 0) none (record { few = lit≤ tt; each = tt })
@@ -127,24 +141,27 @@ module _ (size : ℕ) where
         → Good size (n + 1 + t + paid place) cs
     line-of Blank f Outside o cs e = no-more (g Outside cs e tt) (omega arith)
     line-of Reset f Outside o cs e =
-        one-more (call 0 0 0) (after Outside) e (lit≤ tt, λ z. absurd (omega (arith, z)), λ z. absurd (omega (arith, z))) (λ more q. g Outside more q tt) (omega (arith, f .long))
+        one-more (call 0 0 0) (after Outside) e (plain 0 (lit≤ tt) (λ z. absurd (omega (arith, z))) (λ z. absurd (omega (arith, z)))) (λ more q. g Outside more q tt) (omega (arith, f .long))
     line-of Load f Outside o cs e = no-more (g (Inside number (start + n + 1)) cs e (omega arith)) (omega (arith, f .long))
     line-of End f Outside o cs e = absurd (not-calls e)
     line-of (Run v) f Outside o cs e =
-        one-more (call 2 v 0) (after Outside) e (lit≤ tt, λ z. absurd (omega (arith, z)), λ z. f .small) (λ more q. g Outside more q tt) (omega (arith, f .long))
+        one-more (call 2 v 0) (after Outside) e (plain 2 (lit≤ tt) (λ z. absurd (omega (arith, z))) (λ z. f .small)) (λ more q. g Outside more q tt) (omega (arith, f .long))
     line-of Step f Outside o cs e =
-        one-more (call 3 0 0) (after Outside) e (lit≤ tt, λ z. absurd (omega (arith, z)), λ z. absurd (omega (arith, z))) (λ more q. g Outside more q tt) (omega (arith, f .long))
+        one-more (call 3 0 0) (after Outside) e (plain 3 (lit≤ tt) (λ z. absurd (omega (arith, z))) (λ z. absurd (omega (arith, z)))) (λ more q. g Outside more q tt) (omega (arith, f .long))
     line-of View f Outside o cs e =
-        one-more (call 4 0 0) (after Outside) e (lit≤ tt, λ z. absurd (omega (arith, z)), λ z. absurd (omega (arith, z))) (λ more q. g Outside more q tt) (omega (arith, f .long))
+        one-more (call 4 0 0) (after Outside) e (plain 4 (lit≤ tt) (λ z. absurd (omega (arith, z))) (λ z. absurd (omega (arith, z)))) (λ more q. g Outside more q tt) (omega (arith, f .long))
+    line-of (Listing first count) f Outside o cs e =
+        one-more (call 100 first count) (after Outside) e (inr refl, λ z. absurd (omega (arith, z)), λ z. absurd (omega (arith, z)), λ z. f .small) (λ more q. g Outside more q tt) (omega (arith, f .long))
     line-of Unknown f Outside o cs e = absurd (not-calls e)
     line-of Blank f (Inside m from) o cs e = no-more (g (Inside m from) cs e (omega arith)) (omega arith)
     line-of Reset f (Inside m from) o cs e = no-more (g (Inside m from) cs e (omega arith)) (omega arith)
     line-of Load f (Inside m from) o cs e = no-more (g (Inside m from) cs e (omega arith)) (omega arith)
     line-of End f (Inside m from) o cs e =
-        one-more (call 1 from start) (after Outside) e (lit≤ tt, λ z. (o, h), λ z. absurd (omega (arith, z))) (λ more q. g Outside more q tt) (omega arith)
+        one-more (call 1 from start) (after Outside) e (plain 1 (lit≤ tt) (λ z. (o, h)) (λ z. absurd (omega (arith, z)))) (λ more q. g Outside more q tt) (omega arith)
     line-of (Run v) f (Inside m from) o cs e = no-more (g (Inside m from) cs e (omega arith)) (omega arith)
     line-of Step f (Inside m from) o cs e = no-more (g (Inside m from) cs e (omega arith)) (omega arith)
     line-of View f (Inside m from) o cs e = no-more (g (Inside m from) cs e (omega arith)) (omega arith)
+    line-of (Listing first count) f (Inside m from) o cs e = no-more (g (Inside m from) cs e (omega arith)) (omega arith)
     line-of Unknown f (Inside m from) o cs e = no-more (g (Inside m from) cs e (omega arith)) (omega arith)
 
   all-lines : (ls : List (List ℕ)) (place : Place) (number start : ℕ) → start + startAfter ls ≤ size + 1 → Before place start

@@ -1,16 +1,19 @@
--- What a line of a script says: `reset`, `load`, `end`, `step`, `view`, or `run`, one space and decimal digits (at most 4,294,967,295), from
--- its first byte on, in lower case; then spaces or none, then nothing or `;` and a comment. A line without a word is skipped. CR and tab
--- are no spaces. A line is the list of its bytes, without its LF.
+-- What a line of a script says: `reset`, `load`, `end`, `step`, `view`; or `run`, one space and decimal digits (at most 4,294,967,295); or
+-- `listing`, one space, an address in four hexadecimal digits, one space and decimal digits, as of a run. It does so from its first byte on,
+-- in lower case; then spaces or none, then nothing or `;` and a comment. A line without a word is skipped. CR and tab are no spaces. A line
+-- is the list of its bytes, without its LF.
 use mathlib.Core.Bool.{Bool, true, false, cond, _&&_}
 use mathlib.Core.List.{List, [], _∷_}
 use Prim.Native.Nat.{ℕ, _+_, _-_, _*_}
-use lib.Dec.{eqb, leb}
+use lib.Dec.{eqb, leb, ltb}
 use lib.ListN.{length, getD, drop}
-use Rattle.lines.specs.Lines.{ends}
+use Rattle.lines.specs.Lines.{space, ends, byteAt, numberAt}
 use Rattle.script.specs.declared.Command.{Command}
-use Rattle.script.specs.declared.Command.the-variants.{Blank, Reset, Load, End, Run, Step, View, Unknown}
+use Rattle.script.specs.declared.Command.the-variants.{Blank, Reset, Load, End, Run, Step, View, Listing, Unknown}
+use Rattle.script.specs.declared.Decimal.{Decimal}
+use Rattle.script.specs.declared.Decimal.the-variants.{Value, NoValue}
 
--- the words, in ASCII: `reset`, `load`, `end`, `step`, `view`, and `run` with its space
+-- the words, in ASCII: `reset`, `load`, `end`, `step`, `view`, and `run` and `listing` with their spaces
 abbrev pub resetWord : List ℕ
 resetWord = 114 ∷ 101 ∷ 115 ∷ 101 ∷ 116 ∷ []
 
@@ -29,6 +32,9 @@ viewWord = 118 ∷ 105 ∷ 101 ∷ 119 ∷ []
 abbrev pub runWord : List ℕ
 runWord = 114 ∷ 117 ∷ 110 ∷ 32 ∷ []
 
+abbrev pub listingWord : List ℕ
+listingWord = 108 ∷ 105 ∷ 115 ∷ 116 ∷ 105 ∷ 110 ∷ 103 ∷ 32 ∷ []
+
 -- whether a line begins with a word
 unfoldable pub begins : List ℕ → List ℕ → Bool
 begins [] line = true
@@ -43,19 +49,39 @@ says word line = begins word line && ends (drop (length word) line)
 unfoldable pub isDigit : ℕ → Bool
 isDigit b = leb 48 b && leb b 57
 
--- a budget of 32 bits, its digits followed by the end of a line as above
-unfoldable pub runOf : ℕ → Bool → Command
-runOf n ended = cond (leb n 4294967295 && ended) (Run n) Unknown
+-- a number of 32 bits, its digits followed by the end of a line as above
+unfoldable pub valueOf : ℕ → Bool → Decimal
+valueOf n ended = cond (leb n 4294967295 && ended) (Value n) NoValue
 
 -- the digits on from a value read so far
-unfoldable pub budgetFrom : ℕ → List ℕ → Command
-budgetFrom n [] = runOf n true
-budgetFrom n (b ∷ t) = cond (isDigit b) (budgetFrom (n * 10 + (b - 48)) t) (runOf n (ends (b ∷ t)))
+unfoldable pub decimalFrom : ℕ → List ℕ → Decimal
+decimalFrom n [] = valueOf n true
+decimalFrom n (b ∷ t) = cond (isDigit b) (decimalFrom (n * 10 + (b - 48)) t) (valueOf n (ends (b ∷ t)))
 
 -- a digit or more; 0, which is none, stands for the byte past the end
-unfoldable pub budgetOf : List ℕ → Command
-budgetOf t = cond (isDigit (getD t 0 0)) (budgetFrom 0 t) Unknown
+unfoldable pub decimalOf : List ℕ → Decimal
+decimalOf t = cond (isDigit (getD t 0 0)) (decimalFrom 0 t) NoValue
 
+-- a run, by its budget
+abbrev pub runOf : Decimal → Command
+runOf (Value n) = Run n
+runOf NoValue = Unknown
+
+-- a listing, by its address, the byte behind it and its count
+abbrev pub listingOf : ℕ → ℕ → Decimal → Command
+listingOf first between (Value count) = cond (ltb first 65536 && eqb between space) (Listing first count) Unknown
+listingOf first between NoValue = Unknown
+
+-- which stand at places 0 to 3, at 4, and from 5 on
+unfoldable pub listingAt : List ℕ → Command
+listingAt t = listingOf (numberAt t 0) (byteAt t 4) (decimalOf (drop 5 t))
+
+-- the commands with numbers behind their word
+unfoldable pub withNumbers : List ℕ → Command
+withNumbers line =
+    cond (begins runWord line) (runOf (decimalOf (drop 4 line))) (cond (begins listingWord line) (listingAt (drop 8 line)) Unknown)
+
+-- those that are a word alone, then those with numbers
 unfoldable pub commandOf : List ℕ → Command
 commandOf line =
     cond (ends line) Blank
@@ -63,4 +89,4 @@ commandOf line =
     (cond (says loadWord line) Load
     (cond (says endWord line) End
     (cond (says stepWord line) Step
-    (cond (says viewWord line) View (cond (begins runWord line) (budgetOf (drop 4 line)) Unknown))))))
+    (cond (says viewWord line) View (withNumbers line))))))

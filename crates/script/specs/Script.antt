@@ -1,5 +1,5 @@
--- Scripts: the calls that the lines of a text are, as `replay::replay` takes them. The contract of `read` is an equation with
--- `scriptRead`.
+-- Scripts: the calls that the lines of a text are, as `replay::replay` takes them, and listings among them. The contract of `read` is an
+-- equation with `scriptRead`.
 use mathlib.Core.Bool.{Bool, true, false, cond}
 use mathlib.Core.List.{List, [], _∷_, _++_}
 use Prim.Native.Nat.{ℕ, _+_, _*_}
@@ -8,7 +8,7 @@ use lib.ListN.{length, drop}
 use Rattle.lines.specs.Lines.{lines}
 use Rattle.script.specs.Commands.{commandOf}
 use Rattle.script.specs.declared.Command.{Command}
-use Rattle.script.specs.declared.Command.the-variants.{Blank, Reset, Load, End, Run, Step, View, Unknown}
+use Rattle.script.specs.declared.Command.the-variants.{Blank, Reset, Load, End, Run, Step, View, Listing, Unknown}
 use Rattle.script.specs.declared.Place.{Place}
 use Rattle.script.specs.declared.Place.the-variants.{Outside, Inside}
 use Rattle.script.specs.declared.Meaning.{Meaning}
@@ -16,7 +16,8 @@ use Rattle.script.specs.declared.Meaning.the-variants as meaning
 use Rattle.script.specs.declared.ScriptAnswer.{ScriptAnswer}
 use Rattle.script.specs.declared.ScriptAnswer.the-variants as answer
 
--- outside a load a line is a call or nothing, or cannot be read; a load is a call only once its `end` is there
+-- outside a load a line is a call or nothing, or cannot be read; a load is a call only once its `end` is there. The cases below 100 are
+-- those of `replay::replay`; from 100 on a case is the script's own
 abbrev pub outside : Command → Meaning
 outside Blank = meaning.Nothing
 outside Reset = meaning.Call 0 0 0
@@ -25,6 +26,7 @@ outside End = meaning.Unreadable
 outside (Run b) = meaning.Call 2 b 0
 outside Step = meaning.Call 3 0 0
 outside View = meaning.Call 4 0 0
+outside (Listing first count) = meaning.Call 100 first count
 outside Unknown = meaning.Unreadable
 
 -- `load` opens a load, and `end` closes it
@@ -36,6 +38,7 @@ isLoad End = false
 isLoad (Run b) = false
 isLoad Step = false
 isLoad View = false
+isLoad (Listing first count) = false
 isLoad Unknown = false
 
 abbrev pub isEnd : Command → Bool
@@ -46,6 +49,7 @@ isEnd End = true
 isEnd (Run b) = false
 isEnd Step = false
 isEnd View = false
+isEnd (Listing first count) = false
 isEnd Unknown = false
 
 -- inside a load every line is its listing's, one of only a comment too, which is ill-formed there; up to `end`: the load's stretch goes up

@@ -1,10 +1,14 @@
-// Scripts: calls as lines of text, read into the numbers that replay::replay takes.
+// Scripts: calls as lines of text, read into the numbers that replay::replay takes, and listings among them.
 ghost use mathlib.Core.Path.{_≡_};
 ghost use Prim.Native.Nat.{_+_, _*_, _≤_, _<_};
 ghost use lib.ListN.{length};
-ghost use Rattle.script.specs.Commands.{begins, says, isDigit, runOf, budgetOf, commandOf};
+ghost use Rattle.script.specs.Commands.{begins, says, isDigit, valueOf, decimalOf, runOf, listingOf, listingAt, withNumbers, commandOf};
 ghost use Rattle.script.specs.Script.{outside, isLoad, isEnd, inside, meaningOf, afterOutside, afterInside, placeAfter, followed, scriptOf, gave, scriptRead};
 ghost use Rattle.script.specs.ScriptParts.{scriptAt, Within, verdictOf, atEndAnswer, callsIn, put, Fits, callsWritten};
+
+// The case of a listing among the numbers of a script: its address and its count follow. The cases of replay::replay are below 100; from
+// there on they are the script's own.
+pub const LISTING: u64 = 100;
 
 // What one line says.
 enum Command {
@@ -16,7 +20,14 @@ enum Command {
     Run(u32),
     Step,
     View,
+    Listing { first: u16, count: u32 },
     Unknown,
+}
+
+// A number in decimal digits, or none that can be read.
+enum Decimal {
+    Value(u32),
+    NoValue,
 }
 
 // Outside a load; or inside one, with the number of its line and the offset at which its listing starts.
@@ -25,7 +36,7 @@ enum Place {
     Inside { number: usize, from: usize },
 }
 
-// What a line comes to at its place: a call is the three numbers of replay::replay.
+// What a line comes to at its place: a call is the three numbers of replay::replay, or those of a listing.
 enum Meaning {
     Nothing,
     Call { kind: u64, first: u64, second: u64 },
@@ -96,17 +107,17 @@ fn is_digit(b: u8) -> bool
     b <= 57
 }
 
-// A value that a run can have, its digits followed by the end of the line or not.
-fn run_of(value: u64, ended: bool) -> Command
-    ensures { λ r. ⌜ r ≡ runOf value ended ⌝ }
+// A value, its digits followed by the end of the line or not.
+fn value_of(value: u64, ended: bool) -> Decimal
+    ensures { λ r. ⌜ r ≡ valueOf value ended ⌝ }
 {
     if 4294967295 < value {
-        return Command::Unknown;
+        return Decimal::NoValue;
     }
     if ended {
-        return Command::Run(value as u32);
+        return Decimal::Value(value as u32);
     }
-    Command::Unknown
+    Decimal::NoValue
 }
 
 fn wide(b: u8) -> u64
@@ -115,31 +126,83 @@ fn wide(b: u8) -> u64
     b as u64
 }
 
-// What follows `run` and its space: digits, then the end of the line. A value that has grown too large stays so.
-fn read_budget(s: &[u8]) -> Command
-    ensures { λ r. ⌜ r ≡ budgetOf (now (s .entry)) ⌝ }
+// Digits, then the end of the line. A value that has grown too large stays so.
+fn read_decimal(s: &[u8]) -> Decimal
+    ensures { λ r. ⌜ r ≡ decimalOf (now (s .entry)) ⌝ }
 {
     if s.len() == 0 {
-        return Command::Unknown;
+        return Decimal::NoValue;
     }
     if !is_digit(s[0]) {
-        return Command::Unknown;
+        return Decimal::NoValue;
     }
     let mut value: u64 = 0;
     let mut i = 0;
     while i < s.len() {
         if !is_digit(s[i]) {
-            return run_of(value, lines::line_ends(&s[i..]));
+            return value_of(value, lines::line_ends(&s[i..]));
         }
         value = value * 10 + wide(s[i] - 48);
         if 4294967295 < value {
-            return Command::Unknown;
+            return Decimal::NoValue;
         }
         i += 1;
     }
-    run_of(value, true)
+    value_of(value, true)
 }
 
+fn run_of(budget: Decimal) -> Command
+    ensures { λ r. ⌜ r ≡ runOf budget ⌝ }
+{
+    match budget {
+        Decimal::Value(n) => Command::Run(n),
+        Decimal::NoValue => Command::Unknown,
+    }
+}
+
+// A listing, given its address, the byte behind it and its count.
+fn listing_of(first: u32, between: u8, count: Decimal) -> Command
+    ensures { λ r. ⌜ r ≡ listingOf first between count ⌝ }
+{
+    let Decimal::Value(n) = count else {
+        return Command::Unknown;
+    };
+    if 65536 <= first {
+        return Command::Unknown;
+    }
+    if between != b' ' {
+        return Command::Unknown;
+    }
+    Command::Listing {
+        first: first as u16,
+        count: n,
+    }
+}
+
+// What follows `listing` and its space.
+fn read_listing(s: &[u8]) -> Command
+    ensures { λ r. ⌜ r ≡ listingAt (now (s .entry)) ⌝ }
+{
+    if s.len() < 5 {
+        return Command::Unknown;
+    }
+    listing_of(lines::front_number(s), s[4], read_decimal(&s[5..]))
+}
+
+// The commands with numbers behind their word.
+fn read_with_numbers(line: &[u8]) -> Command
+    ensures { λ r. ⌜ r ≡ withNumbers (now (line .entry)) ⌝ }
+{
+    if begins_with(b"run ", line) {
+        return run_of(read_decimal(&line[4..]));
+    }
+    if begins_with(b"listing ", line) {
+        return read_listing(&line[8..]);
+    }
+    Command::Unknown
+}
+
+// The commands that are a word alone, then those with numbers.
 fn read_command(line: &[u8]) -> Command
     ensures { λ r. ⌜ r ≡ commandOf (now (line .entry)) ⌝ }
 {
@@ -161,10 +224,7 @@ fn read_command(line: &[u8]) -> Command
     if is_word(b"view", line) {
         return Command::View;
     }
-    if begins_with(b"run ", line) {
-        return read_budget(&line[4..]);
-    }
-    Command::Unknown
+    read_with_numbers(line)
 }
 
 fn outside_load(command: Command) -> Meaning
@@ -194,6 +254,11 @@ fn outside_load(command: Command) -> Meaning
             first: 0,
             second: 0,
         },
+        Command::Listing { first, count } => Meaning::Call {
+            kind: LISTING,
+            first: first as u64,
+            second: count as u64,
+        },
         Command::Unknown => Meaning::Unreadable,
     }
 }
@@ -222,6 +287,7 @@ fn opens(command: Command) -> bool
         Command::Run(_) => false,
         Command::Step => false,
         Command::View => false,
+        Command::Listing { first: _, count: _ } => false,
         Command::Unknown => false,
     }
 }
@@ -237,6 +303,7 @@ fn closes(command: Command) -> bool
         Command::Run(_) => false,
         Command::Step => false,
         Command::View => false,
+        Command::Listing { first: _, count: _ } => false,
         Command::Unknown => false,
     }
 }

@@ -1,21 +1,10 @@
 -- `script::run_of` meets its contract. Assumes nothing.
-use borrow.Author.Tests.{le-leb, lt-leb}
-use Rattle.script.specs.Commands.{runOf}
 use borrow.Author.Needs.{needs}
 use Rattle.script.proofs.run_of.Statement.{statement}
 use Rattle.script.proofs.run_of.Tie as tie
 
 returns : tie.Need-returns
-unfolding runOf
-returns c = rw (lt-leb _ 4294967295 (c .if1 .taken))
-
-returns-2 : tie.Need-returns-2
-unfolding runOf
-returns-2 c = rw (le-leb _ 4294967295 (c .before .if1 .left), c .if2 .taken)
-
-returns-3 : tie.Need-returns-3
-unfolding runOf
-returns-3 c = rw (le-leb _ 4294967295 (c .before .if1 .left), c .if2 .left)
+returns c = rw (c .before .budget .given .1)
 
 pub run-of-spec : {M : Type 1} → statement M
-run-of-spec = tie.close (tie.spec returns (λ c. search needs) returns-2 returns-3)
+run-of-spec = tie.close (tie.spec (λ c. search needs) (λ c. search needs) returns (λ c. search needs))

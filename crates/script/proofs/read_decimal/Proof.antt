@@ -1,4 +1,4 @@
--- `script::read_budget` meets its contract: what is left, read on from the value so far, gives what the whole gives. Assumes nothing.
+-- `script::read_decimal` meets its contract: what is left, read on from the value so far, gives what the whole gives. Assumes nothing.
 use mathlib.Core.Path.{_≡_, sym, ap, _∙_}
 use mathlib.Core.Bool.{Bool}
 use Prim.Native.Nat.{ℕ, _≤_, _+_, _*_, _-_}
@@ -8,13 +8,13 @@ use borrow.Author.Tests.{not-true, not-false}
 use lib.ListN.{length, getD, drop}
 use Rattle.lines.specs.Lines.{ends}
 use Rattle.lines.proofs.Places.{to-end}
-use Rattle.script.specs.Commands.{runOf, budgetFrom, budgetOf}
-use Rattle.script.proofs.Budgets.{digit-range, digit-read, digits-over, digits-end, too-large, no-digits, no-digit, some-digit}
-use Rattle.script.proofs.read_budget.Statement.{statement}
-use Rattle.script.proofs.read_budget.Tie as tie
+use Rattle.script.specs.Commands.{valueOf, decimalFrom, decimalOf}
+use Rattle.script.proofs.Decimals.{digit-range, digit-read, digits-over, digits-end, too-large, no-digits, no-digit, some-digit}
+use Rattle.script.proofs.read_decimal.Statement.{statement}
+use Rattle.script.proofs.read_decimal.Tie as tie
 
 abbrev Inv-loop : tie.InvT-loop
-Inv-loop s value₀ i₀ value i = (i ≤ length s) × (value ≤ 4294967295) × (budgetOf s ≡ budgetFrom value (drop i s))
+Inv-loop s value₀ i₀ value i = (i ≤ length s) × (value ≤ 4294967295) × (decimalOf s ≡ decimalFrom value (drop i s))
 
 abbrev μ-loop : tie.MeasureT-loop
 μ-loop s value₀ i₀ value i = length s - i
@@ -33,8 +33,8 @@ returns-3 c =
     let l = c .before .before .before .before .before .before .before .loop in
     let s = c .before .before .before .before .before .before .before .before .before .before .before .before .before .args .s .now in
     let d = sym (c .before .before .before .before .is-digit2 .ensures) ∙ not-true _ (c .before .before .before .if3 .taken) in
-    c .run-of .ensures
-    ∙ ap (λ (e : Bool). runOf (l .value) e) (c .before .line-ends .ensures ∙ ap ends (to-end s (l .i)))
+    c .value-of .ensures
+    ∙ ap (λ (e : Bool). valueOf (l .value) e) (c .before .line-ends .ensures ∙ ap ends (to-end s (l .i)))
     ∙ sym (l .inv .2 ∙ digits-over (l .value) s (l .i) (search needs) d)
 
 sub-wide : tie.Need-sub-wide Inv-loop μ-loop
@@ -68,17 +68,17 @@ loop-again c =
       c .if4 .left,
       l .inv .2
           ∙ digit-read (l .value) s (l .i) (search needs) d
-          ∙ ap (λ (n : ℕ). budgetFrom (l .value * 10 + n) (drop (l .i + 1) s)) (sym (c .before .wide .ensures)),
+          ∙ ap (λ (n : ℕ). decimalFrom (l .value * 10 + n) (drop (l .i + 1) s)) (sym (c .before .wide .ensures)),
     )
 
 returns-5 : tie.Need-returns-5 Inv-loop μ-loop
 returns-5 c =
     let l = c .before .before .loop in
     let s = c .before .before .before .before .before .before .before .before .args .s .now in
-    c .run-of2 .ensures ∙ sym (l .inv .2 ∙ digits-end (l .value) s (l .i) (c .before .loop-test .left))
+    c .value-of2 .ensures ∙ sym (l .inv .2 ∙ digits-end (l .value) s (l .i) (c .before .loop-test .left))
 
-pub read-budget-spec : {M : Type 1} → statement M
-read-budget-spec =
+pub read-decimal-spec : {M : Type 1} → statement M
+read-decimal-spec =
     tie.close
     (tie.spec
     Inv-loop
