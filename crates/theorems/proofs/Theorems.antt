@@ -9,6 +9,7 @@ use Rattle.hex as hex
 use Rattle.lines as lines
 use Rattle.listing as listing
 use Rattle.core as core
+use Rattle.dump as dump
 use Rattle.text as text
 use Rattle.layout as layout
 use Rattle.reference as reference
@@ -101,6 +102,9 @@ hex-digits-kept = hex.proofs.Former.digits-kept
 
 pub hex-digit-exactly : hex.specs.Theorems.DigitExactly
 hex-digit-exactly = hex.proofs.Theorems.digit-exactly
+
+pub hex-digit-written : hex.specs.Theorems.DigitWritten
+hex-digit-written = hex.proofs.Written.digit-written
 
 pub hex-digit-read-back : hex.specs.Theorems.DigitReadBack
 hex-digit-read-back = hex.proofs.Theorems.digit-read-back
@@ -215,6 +219,22 @@ core-read-apart = core.proofs.Apart.read-apart
 
 pub core-read-exactly : core.specs.TheoremsOfCalls.ReadExactly
 core-read-exactly = core.proofs.Apart.read-exactly
+
+-- dump
+pub dump-dump-numbers : dump.specs.Theorems.DumpNumbers
+dump-dump-numbers = dump.proofs.Refusals.dump-numbers
+
+pub dump-dump-bytes : dump.specs.Theorems.DumpBytes
+dump-dump-bytes = dump.proofs.Bytes.dump-bytes
+
+pub dump-loaded-back : dump.specs.Theorems.LoadedBack
+dump-loaded-back = dump.proofs.LoadedBack.loaded-back
+
+pub dump-whole-memory : dump.specs.Theorems.WholeMemory
+dump-whole-memory = dump.proofs.LoadedBack.whole-memory
+
+pub dump-dump-apart : dump.specs.Theorems.DumpApart
+dump-dump-apart = dump.proofs.Apart.dump-apart
 
 -- text
 pub text-letters-apart : text.specs.Theorems.LettersApart
@@ -353,6 +373,9 @@ r8-call-codes = r8.proofs.Exactly.call-codes
 
 pub r8-form-codes : r8.specs.Theorems.FormCodes
 r8-form-codes = r8.proofs.Exactly.form-codes
+
+pub r8-dump-codes : r8.specs.Theorems.DumpCodes
+r8-dump-codes = r8.proofs.Dump.dump-codes
 
 pub r8-trace-codes : r8.specs.Theorems.TraceCodes
 r8-trace-codes = r8.proofs.Exactly.trace-codes
