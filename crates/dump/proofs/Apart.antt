@@ -1,10 +1,8 @@
 -- The theorem `DumpApart` of specs/Theorems.antt. Assumes nothing.
-use mathlib.Core.Path.{_≡_, ap}
+use mathlib.Core.Path.{ap}
 use Rattle.refusals.proofs.Apart.{numbers-apart}
 use Rattle.listing.proofs.Apart.{faults-apart}
-use Rattle.dump.specs.Dump.{answerOf}
 use Rattle.dump.specs.Theorems.{DumpApart}
-use Rattle.dump.specs.declared.DumpAnswer.{DumpAnswer}
 use Rattle.dump.specs.declared.DumpAnswer.the-variants.{Written, Refused, Faulty}
 
 pub dump-apart : DumpApart

@@ -1,6 +1,6 @@
 -- The theorem `DumpBytes` of specs/Theorems.antt: line by line, and then byte by byte. Assumes nothing.
-use mathlib.Core.Path.{_≡_, refl, ap, _∙_}
-use mathlib.Core.List.{List, [], _++_}
+use mathlib.Core.Path.{_≡_, ap, _∙_}
+use mathlib.Core.List.{List, _++_}
 use Prim.Native.Nat.{ℕ, zero, suc, _+_, _-_, _*_, _/_, _≤_, _<_}
 use native.Mathlib.Omega.{arith}
 use lib.ListN.{length, getD, drop, length-append, length-drop, List·getD-append}
@@ -8,10 +8,10 @@ use lib.Dec.{lit≤}
 use lib.Seq.{getD-append-add, getD-drop}
 use Rattle.words.specs.Memory.{wordAt}
 use Rattle.hex.proofs.Written.{digit-written}
-use Rattle.dump.specs.Dump.{lineText, linesText, dumped}
+use Rattle.dump.specs.Dump.{lineText, linesText}
 use Rattle.dump.specs.Theorems.{LineAt, DumpBytes}
 use Rattle.dump.proofs.Writes.{lines-length}
-use Rattle.dump.proofs.Refusals.{Taken, is-taken}
+use Rattle.dump.proofs.Refusals.{is-taken}
 
 -- byte j of line k
 in-line : (memory : List ℕ) (first count k j : ℕ) → k < count → j < 10

@@ -10,7 +10,7 @@ use lib.Dec.{lit≤}
 use lib.ListN.{length, getD, take, drop, List·getD-eq-default}
 use lib.Seq.{take-at, ext-getD}
 use Rattle.words.specs.Memory.{wordAt}
-use Rattle.refusals.specs.Theorems.{First, NoneApplies}
+use Rattle.refusals.specs.Theorems.{NoneApplies}
 use Rattle.lines.specs.Lines.{lines, readLine}
 use Rattle.lines.specs.declared.Line.the-variants.{Entry}
 use Rattle.lines.proofs.Entries.{same-entry, no-line}
@@ -24,7 +24,7 @@ use Rattle.core.proofs.Taken.{others-taken}
 use Rattle.dump.specs.Dump.{linesText, written, dumped}
 use Rattle.dump.specs.Theorems.{dumpNumbers, Words, LoadedBack, WholeMemory}
 use Rattle.dump.proofs.Writes.{lines-length}
-use Rattle.dump.proofs.Refusals.{Taken, is-taken, dump-numbers}
+use Rattle.dump.proofs.Refusals.{is-taken, dump-numbers}
 use Rattle.dump.proofs.Read.{bodies, lines-of, said, bodies-length, is-stored}
 
 -- a load on a core with cycle 1 due, into a memory of a length that is right, is not refused before its lines

@@ -1,22 +1,22 @@
 -- What is written, read again: the lines of the text, what each says, and that they have no fault. Assumes nothing.
-use mathlib.Core.Path.{_≡_, refl, sym, ap, _∙_}
+use mathlib.Core.Path.{_≡_, refl, ap, _∙_}
 use mathlib.Core.Logic.{inl}
 use mathlib.Core.Bool.{Bool, true, false, cond}
 use mathlib.Core.List.{List, [], _∷_, _++_}
-use Prim.Native.Nat.{ℕ, zero, suc, _+_, _*_, _/_, _%_, _≤_, _<_}
+use Prim.Native.Nat.{ℕ, zero, suc, _+_, _/_, _%_, _≤_, _<_}
 use native.Mathlib.Omega.{arith}
 use borrow.Author.Tests.{ne-eqb, lt-leb, le-ltb}
-use lib.Dec.{eqb, ltb}
+use lib.Dec.{ltb}
 use lib.ListN.{length, getD}
 use Rattle.words.specs.Memory.{wordAt}
 use Rattle.hex.specs.Digits.{hexDigit, wordText}
-use Rattle.lines.specs.Lines.{prepend, lines, readLine}
+use Rattle.lines.specs.Lines.{lines, readLine}
 use Rattle.lines.specs.declared.Line.{Line}
 use Rattle.lines.specs.declared.Line.the-variants.{Entry}
 use Rattle.lines.proofs.Grammar.{entry-exactly}
 use Rattle.lines.proofs.ReadBack.{word-read-back}
 use Rattle.listing.specs.Answers.{stored}
-use Rattle.listing.specs.Listing.{Check, faultOf, sound, firstOf, firstFault, wordsOf, wordsIn, answerOf, checkOf, listingAnswer}
+use Rattle.listing.specs.Listing.{Check, faultOf, sound, firstOf, firstFault, wordsIn, checkOf, listingAnswer}
 use Rattle.dump.specs.Dump.{linesText}
 use Rattle.dump.specs.Theorems.{Words}
 

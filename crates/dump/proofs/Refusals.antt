@@ -3,9 +3,8 @@
 use mathlib.Core.Path.{_≡_, refl, sym, ap, _∙_}
 use mathlib.Core.Logic.{_↔_, _⊎_, inl, inr}
 use mathlib.Core.Bool.{Bool, true, false, cond}
-use mathlib.Core.List.{List, [], _∷_, _++_}
+use mathlib.Core.List.{List, _++_}
 use Prim.Native.Nat.{ℕ, _+_, _*_, _≤_, _<_}
-use native.Mathlib.Decide.{decLt}
 use native.Mathlib.Omega.{arith}
 use borrow.Author.Tests.{ltb-true, ltb-false, lt-ltb, eqb-true, eqb-false}
 use lib.Dec.{eqb, ltb}
@@ -13,8 +12,9 @@ use lib.ListN.{length, drop}
 use Rattle.refusals.specs.Refusals.{wrongLength}
 use Rattle.refusals.specs.Theorems.{First, NoneApplies, Means}
 use Rattle.refusals.proofs.First.{clash, no-more, more, first-exactly, none-applies, length-exactly}
-use Rattle.dump.specs.Dump.{linesText, pastEnd, tooShort, dumpNumber, Answer, written, refused, refusedAt, refusal, Dumped, dumped}
+use Rattle.dump.specs.Dump.{linesText, pastEnd, tooShort, dumpNumber, written, refused, refusedAt, refusal, Dumped, dumped}
 use Rattle.dump.specs.Theorems.{dumpNumbers, DumpNumbers}
+use Rattle.dump.proofs.Numbers.{right-length}
 
 above-means : (n m : ℕ) → Means (ltb n m) (n < m)
 above-means n m = (λ e. ltb-true n m e, λ e h. clash (lt-ltb n m h) e)
@@ -146,18 +146,14 @@ module _ (memory : List ℕ) (first count : ℕ) (text : List ℕ) (bytes : ℕ)
       let one = none-applies 0 (wrongLength (length memory)) _ e in
       let four = none-applies 3 (pastEnd (length memory) first count) _ (one .1) in
       let ten = none-applies 9 (tooShort (length text) count) _ (four .1) in
-      let right = length-exactly (length memory) .1 (one .0) in
       record {
-        right = right;
-        size = by-size (length memory) right;
+        right = length-exactly (length memory) .1 (one .0);
+        size = right-length (length memory) (one .0);
         within = ltb-false (length memory) (first + count) (four .0);
         room = ltb-false (length text) (10 * count) (ten .0);
         long = same;
         leaves = rw e;
       }
-    where
-      by-size : (L : ℕ) → ((L ≡ 0) ⊎ (65536 < L) → ⊥) → L ≤ 65536
-      by-size L wrong = elim (decLt 65536 L) [ yes h ↦ absurd (wrong (inr h)) | no h ↦ omega arith ]
 
   pub is-taken : dumped memory first count text .answer ≡ written bytes → Taken memory first count text bytes
   is-taken r = let t = dump-numbers memory first count text .2 bytes .0 r in no-number (none-exact memory first count text .1 (t .0)) (t .1)

@@ -1,11 +1,8 @@
 -- The theorem `DigitWritten` of specs/Theorems.antt: by the value of the digit. Assumes nothing.
-use mathlib.Core.Path.{_≡_, _∙_}
 use mathlib.Core.Bool.{cond}
-use Prim.Native.Nat.{ℕ, _+_, _%_, _<_}
+use Prim.Native.Nat.{ℕ, _+_, _%_}
 use native.Mathlib.Omega.{arith}
 use lib.Dec.{ltb}
-use lib.ListN.{getD}
-use Rattle.hex.specs.Digits.{hexDigit}
 use Rattle.hex.specs.Theorems.{capitals, DigitWritten}
 use Rattle.hex.proofs.Tables.{at}
 

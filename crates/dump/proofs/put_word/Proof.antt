@@ -1,6 +1,5 @@
 -- `dump::put_word` meets its contract. Assumes nothing.
 use native.Mathlib.Numerals.{add-one}
-use native.Mathlib.Omega.{arith}
 use lib.ListN.{length-set}
 use borrow.Author.Needs.{needs}
 use Rattle.dump.proofs.Writes.{two, three}

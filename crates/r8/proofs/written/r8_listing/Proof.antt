@@ -1,6 +1,5 @@
 -- `r8::written::r8_listing` meets its contract: the call's own, with its answer as a number. Assumes nothing.
 use mathlib.Core.Path.{ap, _∙_}
-use mathlib.Core.List.{List}
 use Prim.Native.Nat.{ℕ}
 use borrow.Author.Needs.{needs}
 use Rattle.r8.specs.Dump.{dumpReturned}
