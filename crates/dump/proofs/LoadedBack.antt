@@ -21,7 +21,7 @@ use Rattle.core.specs.Calls.{stored, Reply, load}
 use Rattle.core.specs.TheoremsOfCalls.{loadNumbers}
 use Rattle.core.specs.declared.Core.{Core}
 use Rattle.core.proofs.Taken.{others-taken}
-use Rattle.dump.specs.Dump.{linesText, written, dumped}
+use Rattle.dump.specs.Dump.{listingText, written, dumped}
 use Rattle.dump.specs.Theorems.{dumpNumbers, Words, LoadedBack, WholeMemory}
 use Rattle.dump.proofs.Writes.{lines-length}
 use Rattle.dump.proofs.Refusals.{is-taken, dump-numbers}
@@ -36,23 +36,23 @@ comes-to-lines core memory right due n (inr (r, inr (s, z))) = z
 
 module _ (memory other : List ℕ) (first count : ℕ) (words : Words memory) (same : length other ≡ length memory) (size : length memory ≤ 65536)
     (within : first + count ≤ length memory) where
-  stores : listingAnswer (linesText memory first count) (length other) ≡ listing.stored count
+  stores : listingAnswer (listingText memory first count) (length other) ≡ listing.stored count
   stores = rw same (is-stored memory first count words size within)
 
   -- line i
-  at-line : (i : ℕ) → readLine (getD (lines (linesText memory first count)) i []) ≡ readLine (getD (bodies memory first count) i [])
+  at-line : (i : ℕ) → readLine (getD (lines (listingText memory first count)) i []) ≡ readLine (getD (bodies memory first count) i [])
   at-line i = ap (λ (ls : List (List ℕ)). readLine (getD ls i [])) (lines-of memory first count)
 
-  says : (i : ℕ) → i < count → readLine (getD (lines (linesText memory first count)) i []) ≡ Entry (first + i) (wordAt memory (first + i))
+  says : (i : ℕ) → i < count → readLine (getD (lines (listingText memory first count)) i []) ≡ Entry (first + i) (wordAt memory (first + i))
   says i h = at-line i ∙ said memory first count i words (omega arith) h
 
-  there : (x : ℕ) → first ≤ x → x < first + count → wordAt (listingMemory (linesText memory first count) other) x ≡ wordAt memory x
+  there : (x : ℕ) → first ≤ x → x < first + count → wordAt (listingMemory (listingText memory first count) other) x ≡ wordAt memory x
   there x l h =
       let e : first + (x - first) ≡ x = omega arith in
-      words-stored (linesText memory first count) other count stores .1 (x - first) x (wordAt memory x)
+      words-stored (listingText memory first count) other count stores .1 (x - first) x (wordAt memory x)
       (says (x - first) (omega arith) ∙ ap (λ (a : ℕ). Entry a (wordAt memory a)) e)
 
-  outside : (x i w : ℕ) → (x < first) ⊎ (first + count ≤ x) → readLine (getD (lines (linesText memory first count)) i []) ≡ Entry x w → ⊥
+  outside : (x i w : ℕ) → (x < first) ⊎ (first + count ≤ x) → readLine (getD (lines (listingText memory first count)) i []) ≡ Entry x w → ⊥
   outside x i w o p = elim (decLt i count) [
     | yes h ↦ apart o (same-entry (first + i) (wordAt memory (first + i)) x w (sym (says i h) ∙ p) .0) h
     | no h ↦
@@ -65,14 +65,14 @@ module _ (memory other : List ℕ) (first count : ℕ) (words : Words memory) (s
       apart (inl l) e h = omega arith
       apart (inr l) e h = omega arith
 
-  elsewhere : (x : ℕ) → (x < first) ⊎ (first + count ≤ x) → wordAt (listingMemory (linesText memory first count) other) x ≡ wordAt other x
-  elsewhere x o = words-stored (linesText memory first count) other count stores .2 x (λ i w p. outside x i w o p)
+  elsewhere : (x : ℕ) → (x < first) ⊎ (first + count ≤ x) → wordAt (listingMemory (listingText memory first count) other) x ≡ wordAt other x
+  elsewhere x o = words-stored (listingText memory first count) other count stores .2 x (λ i w p. outside x i w o p)
 
 pub loaded-back : LoadedBack
 loaded-back memory other text first count bytes core words same due e =
     let t = is-taken memory first count text bytes e in
-    let T = linesText memory first count in
-    let lines : take bytes (dumped memory first count text .text) ≡ T = rw (t .leaves, t .long) (take-at T (drop (10 * count) text) (10 * count) (lines-length memory first count)) in
+    let T = listingText memory first count in
+    let lines : take (10 * count) (dumped memory first count text .text) ≡ T = rw (t .leaves) (take-at T (drop (10 * count) text) (10 * count) (lines-length memory first count)) in
     let right : (length other ≡ 0) ⊎ (65536 < length other) → ⊥ = rw same (t .right) in
     let loads = others-taken core other T .0 (comes-to-lines core other right due) in
     let stores = stores memory other first count words same (t .size) (t .within) in

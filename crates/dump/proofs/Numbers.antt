@@ -8,7 +8,7 @@ use borrow.Author.Tests.{ltb-false}
 use lib.Dec.{eqb, ltb}
 use lib.ListN.{length, drop}
 use Rattle.refusals.specs.Refusals.{wrongLength, firstNumber}
-use Rattle.dump.specs.Dump.{linesText, pastEnd, tooShort, dumpNumber, written, refused, refusedAt, dumped}
+use Rattle.dump.specs.Dump.{listingText, pastEnd, tooShort, dumpNumber, written, refused, refusedAt, dumped}
 
 pub right-length : (L : ℕ) → wrongLength L ≡ false → L ≤ 65536
 right-length L = by (eqb L 0) where
@@ -32,6 +32,6 @@ module _ (memory : List ℕ) (first count : ℕ) (text : List ℕ) where
       short e = rw (right, within, e)
 
       pub taken : tooShort (length text) count ≡ false
-          → dumped memory first count text ≡ record { answer = written (10 * count); text = linesText memory first count ++ drop (10 * count) text }
+          → dumped memory first count text ≡ record { answer = written (10 * count); text = listingText memory first count ++ drop (10 * count) text }
       unfolding dumped dumpNumber firstNumber
       taken e = rw (right, within, e)

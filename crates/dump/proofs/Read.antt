@@ -17,7 +17,7 @@ use Rattle.lines.proofs.Grammar.{entry-exactly}
 use Rattle.lines.proofs.ReadBack.{word-read-back}
 use Rattle.listing.specs.Answers.{stored}
 use Rattle.listing.specs.Listing.{Check, faultOf, sound, firstOf, firstFault, wordsIn, checkOf, listingAnswer}
-use Rattle.dump.specs.Dump.{linesText}
+use Rattle.dump.specs.Dump.{listingText}
 use Rattle.dump.specs.Theorems.{Words}
 
 -- a line without its LF
@@ -53,11 +53,11 @@ line-off address word t =
     word-bytes address (32 ∷ (wordText word ++ (10 ∷ t))) (32 ∷ wordText word) (lines t)
     (other-byte 32 (wordText word ++ (10 ∷ t)) (wordText word) (lines t) (λ e. omega arith) (word-bytes word (10 ∷ t) [] (lines t) refl))
 
-pub lines-of : (memory : List ℕ) (first count : ℕ) → lines (linesText memory first count) ≡ bodies memory first count
-unfolding linesText bodies lines
+pub lines-of : (memory : List ℕ) (first count : ℕ) → lines (listingText memory first count) ≡ bodies memory first count
+unfolding listingText bodies lines
 lines-of memory first zero = refl
 lines-of memory first (suc count) =
-    line-off first (wordAt memory first) (linesText memory (first + 1) count)
+    line-off first (wordAt memory first) (listingText memory (first + 1) count)
     ∙ ap (λ (ls : List (List ℕ)). body first (wordAt memory first) ∷ ls) (lines-of memory (first + 1) count)
 
 -- what a line says: the digit writer is the reader's inverse
@@ -115,7 +115,7 @@ all-words memory first (suc count) words h =
 
 -- so all of it is stored
 pub is-stored : (memory : List ℕ) (first count : ℕ) → Words memory → length memory ≤ 65536 → first + count ≤ length memory
-    → listingAnswer (linesText memory first count) (length memory) ≡ stored count
+    → listingAnswer (listingText memory first count) (length memory) ≡ stored count
 unfolding listingAnswer checkOf
 is-stored memory first count words s h =
     rw (lines-of memory first count, no-faults memory (length memory) 0 0 first count words s h (omega arith))

@@ -12,7 +12,7 @@ use lib.ListN.{length, drop}
 use Rattle.refusals.specs.Refusals.{wrongLength}
 use Rattle.refusals.specs.Theorems.{First, NoneApplies, Means}
 use Rattle.refusals.proofs.First.{clash, no-more, more, first-exactly, none-applies, length-exactly}
-use Rattle.dump.specs.Dump.{linesText, pastEnd, tooShort, dumpNumber, written, refused, refusedAt, refusal, Dumped, dumped}
+use Rattle.dump.specs.Dump.{listingText, pastEnd, tooShort, dumpNumber, written, refused, refusedAt, refusal, Dumped, dumped}
 use Rattle.dump.specs.Theorems.{dumpNumbers, DumpNumbers}
 use Rattle.dump.proofs.Numbers.{right-length}
 
@@ -63,7 +63,7 @@ module _ (memory : List ℕ) (first count : ℕ) (text : List ℕ) where
       × ((bytes : ℕ) → (gave .answer ≡ written bytes) ↔ (NoneApplies (dumpNumbers memory first count text) × (bytes ≡ 10 * count)))
       × ((n : ℕ) → First n (dumpNumbers memory first count text) → gave .text ≡ text)
 
-  takes : number ≡ 0 → Says (record { answer = written (10 * count); text = linesText memory first count ++ drop (10 * count) text })
+  takes : number ≡ 0 → Says (record { answer = written (10 * count); text = listingText memory first count ++ drop (10 * count) text })
   unfolding Says
   takes e =
       let none = none-exact .0 e in (
@@ -121,7 +121,7 @@ module _ (memory : List ℕ) (first count : ℕ) (text : List ℕ) where
     where
       by : (none : Bool) → eqb number 0 ≡ none
           → Says
-          (cond none (record { answer = written (10 * count); text = linesText memory first count ++ drop (10 * count) text })
+          (cond none (record { answer = written (10 * count); text = listingText memory first count ++ drop (10 * count) text })
           (record { answer = refusal number; text = text }))
       by true e = takes (eqb-true number 0 e)
       by false e = refuses (eqb-false number 0 e)
@@ -137,7 +137,7 @@ pub record Taken (memory : List ℕ) (first count : ℕ) (text : List ℕ) (byte
   pub within : first + count ≤ length memory
   pub room : 10 * count ≤ length text
   pub long : bytes ≡ 10 * count
-  pub leaves : dumped memory first count text .text ≡ linesText memory first count ++ drop (10 * count) text
+  pub leaves : dumped memory first count text .text ≡ listingText memory first count ++ drop (10 * count) text
 
 module _ (memory : List ℕ) (first count : ℕ) (text : List ℕ) (bytes : ℕ) where
   no-number : dumpNumber (length memory) first count (length text) ≡ 0 → bytes ≡ 10 * count → Taken memory first count text bytes

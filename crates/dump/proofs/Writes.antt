@@ -8,7 +8,7 @@ use lib.ListN.{length, drop, set}
 use lib.Seq.{sets, sets-eq}
 use Rattle.words.specs.Memory.{wordAt}
 use Rattle.hex.specs.Digits.{wordText}
-use Rattle.dump.specs.Dump.{lineText, linesText}
+use Rattle.dump.specs.Dump.{entryText, listingText}
 
 -- stores of one list and then of another are those of both
 sets-append : (xs ys l : List ℕ) (i : ℕ) → sets l i (xs ++ ys) ≡ sets (sets l i xs) (i + length xs) ys
@@ -35,35 +35,35 @@ nine n = omega arith
 
 -- a line by its parts
 pub line-written : (text : List ℕ) (at address word : ℕ)
-    → set (sets (set (sets text at (wordText address)) (at + 4) 32) (at + 5) (wordText word)) (at + 9) 10 ≡ sets text at (lineText address word)
+    → set (sets (set (sets text at (wordText address)) (at + 4) 32) (at + 5) (wordText word)) (at + 9) 10 ≡ sets text at (entryText address word)
 line-written text at address word = rw (four, five, nine)
 
-pub lines-length : (memory : List ℕ) (first count : ℕ) → length (linesText memory first count) ≡ 10 * count
-unfolding linesText
+pub lines-length : (memory : List ℕ) (first count : ℕ) → length (listingText memory first count) ≡ 10 * count
+unfolding listingText
 lines-length memory first zero = refl
 lines-length memory first (suc count) = let more = lines-length memory (first + 1) count in omega arith
 
 -- a line more, and the lines after it
 pub line-more : (memory text : List ℕ) (first count i : ℕ) → i < count
-    → sets text (10 * i) (linesText memory (first + i) (count - i))
-    ≡ sets (sets text (10 * i) (lineText (first + i) (wordAt memory (first + i)))) (10 * (i + 1)) (linesText memory (first + (i + 1)) (count - (i + 1)))
-unfolding linesText
+    → sets text (10 * i) (listingText memory (first + i) (count - i))
+    ≡ sets (sets text (10 * i) (entryText (first + i) (wordAt memory (first + i)))) (10 * (i + 1)) (listingText memory (first + (i + 1)) (count - (i + 1)))
+unfolding listingText
 line-more memory text first count i h =
     let left : count - i ≡ suc (count - (i + 1)) = omega arith in
-    let line = lineText (first + i) (wordAt memory (first + i)) in
-    ap (λ (n : ℕ). sets text (10 * i) (linesText memory (first + i) n)) left
-    ∙ sets-append line (linesText memory (first + i + 1) (count - (i + 1))) text (10 * i)
-    ∙ ap (λ (n : ℕ). sets (sets text (10 * i) line) n (linesText memory (first + i + 1) (count - (i + 1)))) (omega arith)
-    ∙ ap (λ (n : ℕ). sets (sets text (10 * i) line) (10 * (i + 1)) (linesText memory n (count - (i + 1)))) (omega arith)
+    let line = entryText (first + i) (wordAt memory (first + i)) in
+    ap (λ (n : ℕ). sets text (10 * i) (listingText memory (first + i) n)) left
+    ∙ sets-append line (listingText memory (first + i + 1) (count - (i + 1))) text (10 * i)
+    ∙ ap (λ (n : ℕ). sets (sets text (10 * i) line) n (listingText memory (first + i + 1) (count - (i + 1)))) (omega arith)
+    ∙ ap (λ (n : ℕ). sets (sets text (10 * i) line) (10 * (i + 1)) (listingText memory n (count - (i + 1)))) (omega arith)
 
-pub none-left : (memory text : List ℕ) (address at : ℕ) {left : ℕ} → left ≡ 0 → sets text at (linesText memory address left) ≡ text
-unfolding linesText
+pub none-left : (memory text : List ℕ) (address at : ℕ) {left : ℕ} → left ≡ 0 → sets text at (listingText memory address left) ≡ text
+unfolding listingText
 none-left memory text address at e = rw e
 
 -- all of them, from the first place on
 pub all-lines : (memory text : List ℕ) (first count : ℕ) → 10 * count ≤ length text
-    → linesText memory first count ++ drop (10 * count) text ≡ sets text 0 (linesText memory first count)
+    → listingText memory first count ++ drop (10 * count) text ≡ sets text 0 (listingText memory first count)
 all-lines memory text first count h =
     let size = lines-length memory first count in
-    let start : 0 + length (linesText memory first count) ≡ 10 * count = omega arith in
-    sym (sets-eq (linesText memory first count) text 0 (omega arith) ∙ ap (λ (n : ℕ). linesText memory first count ++ drop n text) start)
+    let start : 0 + length (listingText memory first count) ≡ 10 * count = omega arith in
+    sym (sets-eq (listingText memory first count) text 0 (omega arith) ∙ ap (λ (n : ℕ). listingText memory first count ++ drop n text) start)

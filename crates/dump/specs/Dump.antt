@@ -1,5 +1,6 @@
--- Document 02, note 1, 'Listings back out of memory': what is written, the numbers 1, 4 and 10, and what the call answers. A memory is the list
--- of its words, a text the list of its bytes.
+-- Document 02, note 1, 'Listings back out of memory': what is written, the numbers 1, 4 and 10, and what the call answers. `dumped` is what it is
+-- to give back, `dumpGave` what the code gave; the contract is that the two are equal. A memory is the list of its words, a text the list of its
+-- bytes.
 use mathlib.Core.Bool.{Bool, cond}
 use mathlib.Core.List.{List, [], _∷_, _++_}
 use Prim.Native.Nat.{ℕ, zero, suc, _+_, _*_}
@@ -14,13 +15,13 @@ use Rattle.dump.specs.declared.DumpAnswer.{DumpAnswer}
 use Rattle.dump.specs.declared.DumpAnswer.the-variants.{Written, Refused, Faulty}
 
 -- 'address, space, word, LF, ten bytes each, capitals'
-abbrev pub lineText : ℕ → ℕ → List ℕ
-lineText address word = wordText address ++ (space ∷ (wordText word ++ (lineFeed ∷ [])))
+abbrev pub entryText : ℕ → ℕ → List ℕ
+entryText address word = wordText address ++ (space ∷ (wordText word ++ (lineFeed ∷ [])))
 
 -- 'Given a first address and a count, the memory is written as listing lines'
-unfoldable pub linesText : List ℕ → ℕ → ℕ → List ℕ
-linesText memory first zero = []
-linesText memory first (suc count) = lineText first (wordAt memory first) ++ linesText memory (first + 1) count
+unfoldable pub listingText : List ℕ → ℕ → ℕ → List ℕ
+listingText memory first zero = []
+listingText memory first (suc count) = entryText first (wordAt memory first) ++ listingText memory (first + 1) count
 
 -- 'First address plus count above L'; 'the lent text is shorter than ten bytes a word'
 abbrev pub pastEnd : ℕ → ℕ → ℕ → Bool
@@ -33,7 +34,7 @@ tooShort room count = ltb room (10 * count)
 unfoldable pub dumpNumber : ℕ → ℕ → ℕ → ℕ → ℕ
 dumpNumber L first count room = firstNumber ((1, wrongLength L) ∷ (4, pastEnd L first count) ∷ (10, tooShort room count) ∷ [])
 
--- the answers: how many bytes were written (the paper leaves it free); or a refusal's number, or its number and offset
+-- the answers: how many bytes were written (the paper leaves it free); or 1 or 10; or 4 with its offset
 pub data Answer : Type 0 where
   written : ℕ → Answer
   refused : ℕ → Answer
@@ -52,10 +53,10 @@ pub record Dumped : Type 0 where
 unfoldable pub dumped : List ℕ → ℕ → ℕ → List ℕ → Dumped
 dumped memory first count text =
     cond (eqb (dumpNumber (length memory) first count (length text)) 0)
-    (record { answer = written (10 * count); text = linesText memory first count ++ drop (10 * count) text })
+    (record { answer = written (10 * count); text = listingText memory first count ++ drop (10 * count) text })
     (record { answer = refusal (dumpNumber (length memory) first count (length text)); text = text })
 
--- what the code gives back, read so: the papers' number and values for each case
+-- what the code gave back, read so: the papers' number and values for each case
 abbrev pub answerOf : DumpAnswer → Answer
 answerOf (Written bytes) = written bytes
 answerOf (Refused why) = refused (refusalNumber why)

@@ -5,7 +5,7 @@ ghost use Prim.Native.Nat.{_+_, _*_, _≤_};
 ghost use lib.ListN.{length, drop};
 ghost use lib.Seq.{sets};
 ghost use Rattle.hex.specs.Digits.{wordText};
-ghost use Rattle.dump.specs.Dump.{lineText, linesText, pastEnd, dumpGave, dumped};
+ghost use Rattle.dump.specs.Dump.{entryText, listingText, pastEnd, dumpGave, dumped};
 use listing::Fault;
 use refusals::Refusal;
 
@@ -44,7 +44,7 @@ fn put_word(text: &mut [u8], at: usize, word: u16)
 // A line, from a place of the text on.
 fn put_line(text: &mut [u8], at: usize, address: u16, word: u16)
     requires { ⌜ at + 10 ≤ length (now text) ⌝ }
-    ensures { λ _. ⌜ now (text .exit) ≡ sets (now (text .entry)) at (lineText address word) ⌝ }
+    ensures { λ _. ⌜ now (text .exit) ≡ sets (now (text .entry)) at (entryText address word) ⌝ }
 {
     put_word(text, at, address);
     text[at + 4] = b' ';
@@ -55,7 +55,7 @@ fn put_line(text: &mut [u8], at: usize, address: u16, word: u16)
 // The lines of a range that lies in the memory, into a text that has room for them.
 fn put_lines(memory: &[u16], first: usize, count: usize, text: &mut [u8])
     requires { ⌜ (first + count ≤ length (now memory)) × (length (now memory) ≤ 65536) × (10 * count ≤ length (now text)) ⌝ }
-    ensures { λ _. ⌜ now (text .exit) ≡ linesText (now (memory .entry)) first count ++ drop (10 * count) (now (text .entry)) ⌝ }
+    ensures { λ _. ⌜ now (text .exit) ≡ listingText (now (memory .entry)) first count ++ drop (10 * count) (now (text .entry)) ⌝ }
 {
     for i in 0..count {
         let address = first + i;

@@ -15,7 +15,7 @@ digitValue b =
     (cond (within 0x41 0x46 b) (b - 0x41 + 10)
     (cond (within 0x61 0x66 b) (b - 0x61 + 10) 16))
 
--- the last hexadecimal digit of a number, in capitals as document 01's example has them: `0` is 48, `A` is 65
+-- the last hexadecimal digit of a number, in capitals, as document 01's example and document 02, note 1, have them: `0` is 48, `A` is 65
 abbrev pub hexDigit : ℕ → ℕ
 hexDigit n = cond (ltb (n % 16) 10) (48 + n % 16) (55 + n % 16)
 

@@ -6,7 +6,7 @@ use Prim.Native.Nat.{ℕ, _*_}
 use borrow.Author.Tests.{eqb-true}
 use lib.Dec.{eqb}
 use lib.ListN.{length, drop}
-use Rattle.dump.specs.Dump.{linesText, dumpNumber, written, refused, refusedAt, refusal, dumped}
+use Rattle.dump.specs.Dump.{listingText, dumpNumber, written, refused, refusedAt, refusal, dumped}
 use Rattle.dump.proofs.Refusals.{exact, none-exact}
 use Rattle.r8.specs.Dump.{dumpCode, dumpReturned}
 use Rattle.r8.specs.Theorems.{DumpCodes}
@@ -22,11 +22,11 @@ module _ (memory : List ℕ) (first count : ℕ) (text : List ℕ) where
 
       by : (n : ℕ) (zero : Bool) → eqb n 0 ≡ zero
           → dumpReturned
-          (cond zero (record { answer = written (10 * count); text = linesText memory first count ++ drop (10 * count) text })
+          (cond zero (record { answer = written (10 * count); text = listingText memory first count ++ drop (10 * count) text })
           (record { answer = refusal n; text = text })) .0
           ≡ n
       by n true e = sym (eqb-true n 0 e)
       by n false e = by-four n (eqb n 4)
 
 pub dump-codes : DumpCodes
-dump-codes memory first count text = rw (returned memory first count text) (none-exact memory first count text, exact memory first count text)
+dump-codes memory first count text = rw (returned memory first count text) (none-exact memory first count text, exact memory first count text, refl)

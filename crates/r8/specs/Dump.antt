@@ -4,7 +4,7 @@ use Prim.Native.Nat.{ℕ}
 use Rattle.dump.specs.Dump.{Answer, written, refused, refusedAt, Dumped}
 use Rattle.r8.specs.Codes.{ok, codeNumber}
 
--- a refusal's number is returned as itself; the offset of 4 is 0, always, and is not
+-- a refusal's number is returned as itself; neither the bytes written, which the caller knows, nor the offset of 4, which is 0, is
 abbrev pub dumpCode : Answer → ℕ
 dumpCode (written bytes) = codeNumber ok
 dumpCode (refused number) = number

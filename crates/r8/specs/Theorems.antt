@@ -97,13 +97,14 @@ FormCodes =
     ((code ≡ codeNumber Code.noRoom) ↔ (length slice < formSize))
     × ((code ≡ codeNumber undefined) ↔ ((formSize ≤ length slice) × (kindOf word ≡ Kind.Undefined)))
 
--- of r8_listing: the first number that applies, 0 where none does (proved as `dump-codes`)
+-- of r8_listing: the first number that applies, 0 where none does; the text is the call's own (proved as `dump-codes`)
 abbrev pub DumpCodes : Type 0
 DumpCodes =
     (memory : List ℕ) (first count : ℕ) (text : List ℕ)
     → let code : ℕ = dumpReturned (dumped memory first count text) .0 in
     ((code ≡ codeNumber ok) ↔ NoneApplies (dumpNumbers memory first count text))
     × ((n : ℕ) → ((code ≡ n) × (n ≡ 0 → ⊥)) ↔ First n (dumpNumbers memory first count text))
+    × (dumpReturned (dumped memory first count text) .1 ≡ dumped memory first count text .text)
 
 -- and of r8_trace (proved as `trace-codes`)
 abbrev pub TraceCodes : Type 0

@@ -1,16 +1,17 @@
--- What a replay tells of the calls of a core: one statement, proved in proofs/Told.antt.
+-- What a replay, and a single call, tell of the calls of a core: two statements, proved in proofs/Told.antt.
 use mathlib.Core.Path.{_≡_}
-use mathlib.Core.List.{List, []}
+use mathlib.Core.List.{List, [], _∷_}
 use Prim.Native.Nat.{ℕ, _*_, _≤_}
-use lib.ListN.{length, take, drop}
+use lib.ListN.{length, take, drop, replicate}
 use Rattle.core.specs.Cores.{visibleOf}
 use Rattle.core.specs.Spent.{spentOf}
 use Rattle.core.specs.Calls.{Answer}
 use Rattle.core.specs.declared.Core.{Core}
-use Rattle.layout.specs.Layout.{answerSize, leftNumbers}
+use Rattle.layout.specs.Layout.{answerSize, answerNumbers, leftNumbers}
 use Rattle.plays.specs.Plays.{play}
-use Rattle.machine.specs.Theorem.{Call, State, freshState, onCore}
-use Rattle.replay.specs.Replay.{listed, numbersThen, placesFor, Replayed, replayed}
+use Rattle.machine.specs.Theorem.{Call, State, state, freshState, onCore}
+use Rattle.replay.specs.Replay.{readCall, Reading, listed, noCall, noStretch, readCalls, CallPlayed, callPlayed, numbersThen, placesFor, Replayed, replayed}
+use Rattle.replay.specs.declared.CallAnswer.the-variants as callAnswer
 use Rattle.replay.specs.declared.ReplayAnswer.the-variants.{Played}
 
 -- calls that were read, with places enough, are played, and tell what they answer and leave on a fresh core: the memory, the answers in their
@@ -28,3 +29,18 @@ CoreTold =
     × (take (answerSize * length calls) (told .answers) ≡ numbersThen (played .0) [])
     × (take answerSize behind ≡ leftNumbers (visibleOf core) (spentOf core) (core .clock .0))
     × (drop answerSize behind ≡ drop (placesFor calls) answers)
+
+-- a single call is what a list of it alone is read as. It answers the numbers of that call, and leaves the core and the memory that it leaves, as in
+-- every list (`onCore`); three numbers that are no call, or name no stretch, leave both and answer zeros (proved as `call-told`)
+abbrev pub CallTold : Type 0
+CallTold =
+    (text : List ℕ) (kind first second : ℕ) (core : Core) (memory : List ℕ)
+    → let told : CallPlayed = callPlayed text (readCall kind first second (length text)) core memory in
+    let read : Reading = readCalls text (kind ∷ first ∷ second ∷ []) in
+    let left : State = state (told .reply .core) (told .reply .memory) in
+    ((c : Call) → read ≡ listed (c ∷ [])
+    → (told .answer ≡ callAnswer.Played)
+    × (told .reply .numbers ≡ answerNumbers (onCore c (state core memory) .0))
+    × (left ≡ onCore c (state core memory) .1))
+    × (read ≡ noCall 0 → (told .answer ≡ callAnswer.NoCall) × (told .reply .numbers ≡ replicate answerSize 0) × (left ≡ state core memory))
+    × (read ≡ noStretch 0 → (told .answer ≡ callAnswer.NoStretch) × (told .reply .numbers ≡ replicate answerSize 0) × (left ≡ state core memory))

@@ -1,17 +1,19 @@
--- The theorem `ScriptPlayed` of specs/Played.antt: by induction on the lines. Assumes nothing.
+-- The theorem `ScriptPlayed` of specs/Played.antt: by induction on the lines; what is read is what is written. Assumes nothing.
 use mathlib.Core.Path.{_≡_, refl}
 use mathlib.Core.Bool.{Bool, true, false, cond}
 use mathlib.Core.List.{List, [], _∷_, _++_}
-use Prim.Native.Nat.{ℕ, _+_, _-_, _≤_}
+use Prim.Native.Nat.{ℕ, _+_, _-_, _*_, _≤_}
 use native.Mathlib.Omega.{arith}
 use borrow.Author.Tests.{le-leb}
+use lib.Dec.{leb}
 use lib.ListN.{length, take, drop}
+use lib.Seq.{take-at}
 use Rattle.lines.specs.Lines.{lines}
 use Rattle.lines.specs.Theorems.{startAfter}
 use Rattle.machine.specs.Theorem.{Call, reset, load, run, step, view}
 use Rattle.replay.specs.Replay.{readFrom}
 use Rattle.script.specs.Commands.{commandOf}
-use Rattle.script.specs.Script.{isLoad, isEnd, inside, meaningOf, afterOutside, afterInside, placeAfter, Script, calls, unreadable, call, followed, scriptFrom, scriptOf}
+use Rattle.script.specs.Script.{isLoad, isEnd, inside, meaningOf, afterOutside, afterInside, placeAfter, Script, calls, unreadable, call, followed, scriptFrom, scriptOf, numbersOf, gave, scriptRead}
 use Rattle.script.specs.Script as script
 use Rattle.script.specs.Played.{Asked, called, listing, Opened, free, loading, said, openedAfter, meant, ReadAs, AllReadAs, ScriptPlayed}
 use Rattle.script.specs.declared.Command.{Command}
@@ -20,7 +22,8 @@ use Rattle.script.specs.declared.Place.{Place}
 use Rattle.script.specs.declared.Place.the-variants.{Outside, Inside}
 use Rattle.script.specs.declared.Meaning.{Meaning}
 use Rattle.script.specs.declared.Meaning.the-variants as meaning
-use Rattle.script.proofs.Writes.{not-calls}
+use Rattle.script.specs.declared.ScriptAnswer.the-variants.{Read, NoRoom}
+use Rattle.script.proofs.Writes.{not-calls, numbers-length}
 use Rattle.script.proofs.Theorems.{Bounded, command-fair, Before, lines-bytes}
 
 -- a place, by the offset alone
@@ -55,7 +58,7 @@ module _ (text : List ℕ) where
   -- a line's numbers are read as what it asks for
   Means : Meaning → List Asked → Type 0
   Means meaning.Nothing s = s ≡ []
-  Means (meaning.Call kind first second) s = (asked : Asked) × ReadAs text (call kind first second) asked × (s ≡ asked ∷ [])
+  Means (meaning.Call kind first second) s = (asked : Asked) × ReadAs text kind first second asked × (s ≡ asked ∷ [])
   Means meaning.Unreadable s = Unit
 
   means : (place : Place) (command : Command) (start : ℕ) → Bounded command → Before place start → start ≤ length text
@@ -77,9 +80,9 @@ module _ (text : List ℕ) where
 
   -- a line more
   one-more : (m : Meaning) (s : List Asked) (number : ℕ) (x : Script) (more : List Asked) → Means m s
-      → ((cs : List script.Call) → x ≡ calls cs → AllReadAs text cs more)
-      → (cs : List script.Call) → followed m number x ≡ calls cs → AllReadAs text cs (s ++ more)
-  unfolding Means AllReadAs
+      → ((cs : List script.Call) → x ≡ calls cs → AllReadAs text (numbersOf cs) more)
+      → (cs : List script.Call) → followed m number x ≡ calls cs → AllReadAs text (numbersOf cs) (s ++ more)
+  unfolding Means AllReadAs numbersOf
   one-more meaning.Nothing s number x more r ih cs e = rw r (ih cs e)
   one-more (meaning.Call kind first second) s number (calls left) more r ih cs e =
       let split : cs ≡ call kind first second ∷ left = cc in rw (split, r .2) (r .1, ih left refl)
@@ -88,8 +91,8 @@ module _ (text : List ℕ) where
 
   played : (ls : List (List ℕ)) (place : Place) (number start : ℕ) → start + startAfter ls ≤ length text + 1 → Before place start
       → (cs : List script.Call) → scriptFrom place number start ls ≡ calls cs
-      → AllReadAs text cs (meant text (openedAt place) start ls)
-  unfolding scriptFrom meant startAfter AllReadAs
+      → AllReadAs text (numbersOf cs) (meant text (openedAt place) start ls)
+  unfolding scriptFrom meant startAfter AllReadAs numbersOf
   played [] Outside number start h b cs e = let none : cs ≡ [] = cc in rw none tt
   played [] (Inside opener from) number start h b cs e = absurd (not-calls e)
   played (line ∷ rest) place number start h b cs e =
@@ -105,6 +108,22 @@ module _ (text : List ℕ) where
       (before-after number next place command start (omega arith) b) left r))
       cs e
 
-pub script-played : ScriptPlayed
+all-played : (text : List ℕ) (cs : List script.Call) → scriptOf text ≡ calls cs → AllReadAs text (numbersOf cs) (meant text free 0 (lines text))
 unfolding scriptOf
-script-played text cs e = played text (lines text) Outside 1 0 (omega (arith, lines-bytes text)) tt cs e
+all-played text cs e = played text (lines text) Outside 1 0 (omega (arith, lines-bytes text)) tt cs e
+
+pub script-played : ScriptPlayed
+script-played text old count = by (scriptOf text) refl
+  where
+    room : (cs : List script.Call) → scriptOf text ≡ calls cs → (fits : Bool)
+        → cond fits (gave (Read (length cs)) (numbersOf cs ++ drop (3 * length cs) old)) (gave NoRoom old) .answer ≡ Read count
+        → AllReadAs text (take (3 * count) (cond fits (gave (Read (length cs)) (numbersOf cs ++ drop (3 * length cs) old)) (gave NoRoom old) .calls)) (meant text free 0 (lines text))
+    room cs e true r =
+        let many : length cs ≡ count = cc in
+        rw (← many, take-at (numbersOf cs) (drop (3 * length cs) old) (3 * length cs) (numbers-length cs)) (all-played text cs e)
+    room cs e false r = let z : _≡_ {A = ℕ} 0 1 = cc in absurd (omega arith)
+
+    by : (x : Script) → scriptOf text ≡ x → scriptRead x old .answer ≡ Read count
+        → AllReadAs text (take (3 * count) (scriptRead x old .calls)) (meant text free 0 (lines text))
+    by (calls cs) e r = room cs e (leb (3 * length cs) (length old)) r
+    by (unreadable number) e r = let z : _≡_ {A = ℕ} 0 1 = cc in absurd (omega arith)

@@ -21,7 +21,7 @@ use Rattle.script.specs.declared.ScriptAnswer.the-variants as answer
 pub not-calls : {number : ℕ} {cs : List Call} → unreadable number ≡ calls cs → ⊥
 not-calls e = let z : _≡_ {A = ℕ} 0 1 = cc in omega arith
 
-numbers-length : (cs : List Call) → length (numbersOf cs) ≡ 3 * length cs
+pub numbers-length : (cs : List Call) → length (numbersOf cs) ≡ 3 * length cs
 unfolding numbersOf
 numbers-length [] = refl
 numbers-length (call kind first second ∷ rest) = let more = numbers-length rest in omega arith

@@ -1,7 +1,7 @@
--- What a line of a script says: `reset`, `load`, `end`, `step`, `view`; or `run`, one space and decimal digits (at most 4,294,967,295); or
--- `listing`, one space, an address in four hexadecimal digits, one space and decimal digits, as of a run. It does so from its first byte on,
--- in lower case; then spaces or none, then nothing or `;` and a comment. A line without a word is skipped. CR and tab are no spaces. A line
--- is the list of its bytes, without its LF.
+-- What a line of a script says: `reset`, `load`, `end`, `step`, `view`; or `run`, one space and a number in decimal digits (at most
+-- 4,294,967,295); or `listing`, one space, an address in four hexadecimal digits of either case, one space and such a number. Its word stands at
+-- its first byte, in lower case; behind all come spaces or none, then nothing or `;` and a comment. A line without a word is skipped. CR and tab
+-- are no spaces. A line is the list of its bytes, without its LF.
 use mathlib.Core.Bool.{Bool, true, false, cond, _&&_}
 use mathlib.Core.List.{List, [], _∷_}
 use Prim.Native.Nat.{ℕ, _+_, _-_, _*_}
@@ -58,7 +58,7 @@ unfoldable pub decimalFrom : ℕ → List ℕ → Decimal
 decimalFrom n [] = valueOf n true
 decimalFrom n (b ∷ t) = cond (isDigit b) (decimalFrom (n * 10 + (b - 48)) t) (valueOf n (ends (b ∷ t)))
 
--- a digit or more; 0, which is none, stands for the byte past the end
+-- a digit or more; the byte 0, which is no digit, stands for the one past the end
 unfoldable pub decimalOf : List ℕ → Decimal
 decimalOf t = cond (isDigit (getD t 0 0)) (decimalFrom 0 t) NoValue
 
@@ -67,12 +67,12 @@ abbrev pub runOf : Decimal → Command
 runOf (Value n) = Run n
 runOf NoValue = Unknown
 
--- a listing, by its address, the byte behind it and its count
+-- a listing, by its address (65,536 where there are not four digits), the byte behind it and its count
 abbrev pub listingOf : ℕ → ℕ → Decimal → Command
 listingOf first between (Value count) = cond (ltb first 65536 && eqb between space) (Listing first count) Unknown
 listingOf first between NoValue = Unknown
 
--- which stand at places 0 to 3, at 4, and from 5 on
+-- what follows `listing` and its space: the address at places 0 to 3, the byte behind it at 4, the count from 5 on
 unfoldable pub listingAt : List ℕ → Command
 listingAt t = listingOf (numberAt t 0) (byteAt t 4) (decimalOf (drop 5 t))
 

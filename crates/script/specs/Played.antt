@@ -4,16 +4,16 @@
 use mathlib.Core.Path.{_≡_}
 use mathlib.Core.Bool.{cond}
 use mathlib.Core.List.{List, [], _∷_, _++_}
-use Prim.Native.Nat.{ℕ, _+_, _-_}
+use Prim.Native.Nat.{ℕ, _+_, _-_, _*_}
 use lib.ListN.{length, take, drop}
 use Rattle.lines.specs.Lines.{lines}
 use Rattle.machine.specs.Theorem.{Call, reset, load, run, step, view}
 use Rattle.replay.specs.Replay.{listed, readCalls}
 use Rattle.script.specs.Commands.{commandOf}
-use Rattle.script.specs.Script.{isLoad, isEnd, calls, scriptOf}
-use Rattle.script.specs.Script as script
+use Rattle.script.specs.Script.{isLoad, isEnd, scriptOf, Given, scriptRead}
 use Rattle.script.specs.declared.Command.{Command}
 use Rattle.script.specs.declared.Command.the-variants.{Blank, Reset, Load, End, Run, Step, View, Listing, Unknown}
+use Rattle.script.specs.declared.ScriptAnswer.the-variants.{Read}
 
 -- what a line asks for: a call of the theorem over lists, or a listing of so many words from an address on
 pub data Asked : Type 0 where
@@ -56,19 +56,23 @@ meant text opened start (line ∷ rest) =
 
 -- three numbers are what is asked for: by themselves they are, to `replay::replay`, just that call; or they are the case 100, the address
 -- and the count
-abbrev pub ReadAs : List ℕ → script.Call → Asked → Type 0
-ReadAs text (script.call kind first second) (called c) = readCalls text (kind ∷ first ∷ second ∷ []) ≡ listed (c ∷ [])
-ReadAs text (script.call kind first second) (listing address count) = (kind ≡ 100) × (first ≡ address) × (second ≡ count)
+abbrev pub ReadAs : List ℕ → ℕ → ℕ → ℕ → Asked → Type 0
+ReadAs text kind first second (called c) = readCalls text (kind ∷ first ∷ second ∷ []) ≡ listed (c ∷ [])
+ReadAs text kind first second (listing address count) = (kind ≡ 100) × (first ≡ address) × (second ≡ count)
 
 -- and so in order, no number more and none less
-unfoldable pub AllReadAs : List ℕ → List script.Call → List Asked → Type 0
+unfoldable pub AllReadAs : List ℕ → List ℕ → List Asked → Type 0
 AllReadAs text [] [] = Unit
 AllReadAs text [] (asked ∷ others) = ⊥
-AllReadAs text (c ∷ rest) [] = ⊥
-AllReadAs text (c ∷ rest) (asked ∷ others) = ReadAs text c asked × AllReadAs text rest others
+AllReadAs text (kind ∷ []) asked = ⊥
+AllReadAs text (kind ∷ first ∷ []) asked = ⊥
+AllReadAs text (kind ∷ first ∷ second ∷ rest) [] = ⊥
+AllReadAs text (kind ∷ first ∷ second ∷ rest) (asked ∷ others) = ReadAs text kind first second asked × AllReadAs text rest others
 
--- the numbers of a script that is read are what its lines ask for: every stretch lies in the text and every budget has 32 bits, so that
--- `replay::replay` takes each call for the one that is meant (proved as `script-played`)
+-- the numbers that `read` writes, three for each of as many as it answers, are what the script's lines ask for: every stretch lies in the text
+-- and every budget has 32 bits, so that `replay::replay` takes each call for the one that is meant (proved as `script-played`)
 abbrev pub ScriptPlayed : Type 0
 ScriptPlayed =
-    (text : List ℕ) (cs : List script.Call) → scriptOf text ≡ calls cs → AllReadAs text cs (meant text free 0 (lines text))
+    (text old : List ℕ) (count : ℕ)
+    → let given : Given = scriptRead (scriptOf text) old in
+    given .answer ≡ Read count → AllReadAs text (take (3 * count) (given .calls)) (meant text free 0 (lines text))

@@ -236,6 +236,9 @@ dump-whole-memory = dump.proofs.LoadedBack.whole-memory
 pub dump-dump-apart : dump.specs.Theorems.DumpApart
 dump-dump-apart = dump.proofs.Apart.dump-apart
 
+pub dump-dump-read : dump.specs.Theorems.DumpRead
+dump-dump-read = dump.proofs.Apart.dump-read
+
 -- text
 pub text-letters-apart : text.specs.Theorems.LettersApart
 text-letters-apart = text.proofs.Apart.letters-apart
@@ -325,6 +328,9 @@ machine-nothing-asked = machine.proofs.Made.nothing-asked
 -- replay
 pub replay-core-told : replay.specs.Theorems.CoreTold
 replay-core-told = replay.proofs.Told.core-told
+
+pub replay-call-told : replay.specs.Theorems.CallTold
+replay-call-told = replay.proofs.Told.call-told
 
 -- script
 pub script-script-played : script.specs.Played.ScriptPlayed

@@ -6,7 +6,7 @@ use native.Mathlib.Omega.{arith}
 use lib.ListN.{length}
 use lib.Seq.{sets}
 use borrow.Author.Needs.{needs}
-use Rattle.dump.specs.Dump.{linesText}
+use Rattle.dump.specs.Dump.{listingText}
 use Rattle.dump.proofs.Writes.{line-more, none-left, all-lines}
 use Rattle.dump.proofs.put_lines.Statement.{statement}
 use Rattle.dump.proofs.put_lines.Tie as tie
@@ -14,7 +14,7 @@ use Rattle.dump.proofs.put_lines.Tie as tie
 abbrev Inv-loop : tie.InvT-loop
 Inv-loop memory first count text₀ i₀ text i =
     (i ≤ count) × (length text ≡ length text₀)
-    × (sets text₀ 0 (linesText memory first count) ≡ sets text (10 * i) (linesText memory (first + i) (count - i)))
+    × (sets text₀ 0 (listingText memory first count) ≡ sets text (10 * i) (listingText memory (first + i) (count - i)))
 
 abbrev μ-loop : tie.MeasureT-loop
 μ-loop memory first count text₀ i₀ text i = count - i
@@ -30,7 +30,7 @@ loop-holds c =
     let a = c .before .before .args in (
       search needs,
       refl,
-      λ j. sets (a .text .now) 0 (linesText (a .memory .now) (no-more (a .first) j) (no-less (a .count) j)),
+      λ j. sets (a .text .now) 0 (listingText (a .memory .now) (no-more (a .first) j) (no-less (a .count) j)),
     )
 
 loop-again : tie.Need-loop-again Inv-loop μ-loop
@@ -41,7 +41,7 @@ loop-again c =
       search needs,
       put .kept .0 ∙ l .inv .1,
       l .inv .2 ∙ line-more (a .memory .now) (l .text) (a .first) (a .count) (l .i) (search needs)
-          ∙ ap (λ (t : List ℕ). sets t (10 * (l .i + 1)) (linesText (a .memory .now) (a .first + (l .i + 1)) (a .count - (l .i + 1)))) (sym (put .ensures)),
+          ∙ ap (λ (t : List ℕ). sets t (10 * (l .i + 1)) (listingText (a .memory .now) (a .first + (l .i + 1)) (a .count - (l .i + 1)))) (sym (put .ensures)),
     )
 
 returns : tie.Need-returns Inv-loop μ-loop
