@@ -64,8 +64,8 @@ ListingExactly = (line : List ℕ) (first count : ℕ) → (commandOf line ≡ L
 abbrev pub WordLine : List ℕ → List ℕ → Type 0
 WordLine word line = (end : List ℕ) × EndLine end × (line ≡ word ++ end)
 
--- a line is skipped exactly where it is only the end of one, and says `reset`, `load`, `end`, `step` and `view` exactly where it is that
--- word; so what is none of these, no run and no listing, cannot be read (proved as `words-exactly`)
+-- a line is blank exactly where it is only the end of one, and says `reset`, `load`, `end`, `step` and `view` exactly where it is that
+-- word; so what is none of these, and no run or listing, is `Unknown` (proved as `words-exactly`)
 abbrev pub WordsExactly : Type 0
 WordsExactly =
     (line : List ℕ)
