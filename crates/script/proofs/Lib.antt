@@ -5,3 +5,4 @@ pub mod Turns
 pub mod Writes
 pub mod Theorems
 pub mod Played
+pub mod Said

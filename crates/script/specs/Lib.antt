@@ -4,3 +4,4 @@ pub mod Script
 pub mod ScriptParts
 pub mod Theorems
 pub mod Played
+pub mod Said
