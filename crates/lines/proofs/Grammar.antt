@@ -20,7 +20,7 @@ use Rattle.lines.proofs.Places.{too-short}
 use Rattle.lines.proofs.Entries.{a-number, an-entry, blank-no-entry, ill-formed-no-entry, line-entered}
 
 -- the spaces at the front, counted
-spaces-of : (t : List ℕ) → (k : ℕ) × (t ≡ replicate k space ++ afterSpaces t)
+pub spaces-of : (t : List ℕ) → (k : ℕ) × (t ≡ replicate k space ++ afterSpaces t)
 unfolding afterSpaces
 spaces-of [] = (0, refl)
 spaces-of (b ∷ t) = by (eqb b space) refl (spaces-of t) where
@@ -29,7 +29,7 @@ spaces-of (b ∷ t) = by (eqb b space) refl (spaces-of t) where
   by true e r = (suc (r .0), ap (λ (x : ℕ). x ∷ t) (eqb-true b space e) ∙ ap (λ (l : List ℕ). space ∷ l) (r .1))
   by false e r = (0, refl)
 
-spaces-passed : (k : ℕ) (t : List ℕ) → afterSpaces (replicate k space ++ t) ≡ afterSpaces t
+pub spaces-passed : (k : ℕ) (t : List ℕ) → afterSpaces (replicate k space ++ t) ≡ afterSpaces t
 unfolding afterSpaces
 spaces-passed zero t = refl
 spaces-passed (suc k) t = spaces-passed k t
@@ -39,16 +39,15 @@ unfolding afterSpaces
 none = refl
 
 -- nothing, or `;` and a comment
-Ending : List ℕ → Type 0
+abbrev pub Ending : List ℕ → Type 0
 Ending t = (t ≡ []) ⊎ ((comment : List ℕ) × (t ≡ semicolon ∷ comment))
 
-to-ending : (t : List ℕ) → nothingOrComment t ≡ true → Ending t
-unfolding Ending
+pub to-ending : (t : List ℕ) → nothingOrComment t ≡ true → Ending t
 to-ending [] e = inl refl
 to-ending (b ∷ t) e = inr (t, ap (λ (x : ℕ). x ∷ t) (eqb-true b semicolon e))
 
-from-ending : (t : List ℕ) → Ending t → nothingOrComment (afterSpaces t) ≡ true
-unfolding Ending afterSpaces
+pub from-ending : (t : List ℕ) → Ending t → nothingOrComment (afterSpaces t) ≡ true
+unfolding afterSpaces
 from-ending t (inl e) = rw e
 from-ending t (inr e) = rw (e .1)
 
@@ -115,7 +114,6 @@ pieces line h e =
     (sym (take-append-drop 4 (drop 5 line)) ∙ ap (λ (l : List ℕ). take 4 (drop 5 line) ++ l) (drop-drop 4 5 line)))
 
 read-entry : (line : List ℕ) (x y : ℕ) → readLine line ≡ Entry x y → EntryLine line x y
-unfolding Ending
 read-entry line x y e =
     let r = line-entered line x y e in
     let h = long-enough line x y e in
@@ -192,7 +190,7 @@ module _ (first second end : List ℕ) (x y : ℕ) (f : Writes first x) (s : Wri
       (an-entry x _ y (ends end) (f .2) (getD-at first space (second ++ end) 0 4 (f .0)) (s .2) t)
 
 pub entry-exactly : EntryExactly
-unfolding line Ending
+unfolding line
 entry-exactly text x y = (
   read-entry text x y,
   λ r.

@@ -1,6 +1,6 @@
 -- Theorems of specs/Said.antt: the end of a line, then its decimals, then its words. Assumes nothing.
 use mathlib.Core.Path.{_≡_, refl, ap, subst, _∙_}
-use mathlib.Core.Logic.{_⊎_, inl, inr}
+use mathlib.Core.Logic.{inl, inr}
 use mathlib.Core.Bool.{Bool, true, false, cond, _&&_}
 use mathlib.Core.List.{List, [], _∷_, _++_}
 use Prim.Native.Nat.{ℕ, zero, suc, _+_, _-_, _*_, _≤_}
@@ -8,8 +8,9 @@ use native.Mathlib.Omega.{arith}
 use borrow.Author.Tests.{leb-true, le-leb, ltb-true, lt-ltb, eqb-true}
 use lib.Dec.{eqb, leb, ltb}
 use lib.ListN.{length, drop, replicate}
-use Rattle.lines.specs.Lines.{space, semicolon, afterSpaces, nothingOrComment, ends, byteAt, numberAt}
+use Rattle.lines.specs.Lines.{space, afterSpaces, ends, byteAt, numberAt}
 use Rattle.lines.specs.Theorems.{Writes}
+use Rattle.lines.proofs.Grammar.{spaces-of, spaces-passed, Ending, to-ending, from-ending}
 use Rattle.script.specs.Commands.{resetWord, loadWord, endWord, stepWord, viewWord, runWord, listingWord, begins, says, isDigit, valueOf, decimalFrom, decimalOf, runOf, listingOf, listingAt, withNumbers, commandOf}
 use Rattle.script.specs.Script.{isLoad, isEnd}
 use Rattle.script.specs.Said.{AllDigits, written, EndLine, DecimalLast, RunLine, ListingLine, RunExactly, ListingExactly, WordLine, WordsExactly, LoadExactly}
@@ -19,27 +20,12 @@ use Rattle.script.specs.declared.Decimal.{Decimal}
 use Rattle.script.specs.declared.Decimal.the-variants.{Value, NoValue}
 use Rattle.script.proofs.Decimals.{digit-range, no-digits}
 
--- nothing, or `;` and a comment
-abbrev Ending : List ℕ → Type 0
-Ending rest = (rest ≡ []) ⊎ ((comment : List ℕ) × (rest ≡ 59 ∷ comment))
-
 -- the end of a line
 to-end : (t : List ℕ) → ends t ≡ true → EndLine t
-unfolding afterSpaces
-to-end [] e = (0, [], inl refl, refl)
-to-end (b ∷ t) e = by (eqb b space) refl e (to-end t) where
-  by : (v : Bool) → eqb b space ≡ v → nothingOrComment (cond v (afterSpaces t) (b ∷ t)) ≡ true
-      → (ends t ≡ true → EndLine t) → EndLine (b ∷ t)
-  by true v e ih =
-      let r = ih e in
-      (suc (r .0), r .1, r .2, ap (λ (x : ℕ). x ∷ t) (eqb-true b space v) ∙ ap (λ (l : List ℕ). 32 ∷ l) (r .3))
-  by false v e ih = (0, b ∷ t, inr (t, ap (λ (x : ℕ). x ∷ t) (eqb-true b semicolon e)), refl)
+to-end t e = let s = spaces-of t in (s .0, afterSpaces t, to-ending (afterSpaces t) e, s .1)
 
 from-end : (k : ℕ) (rest : List ℕ) → Ending rest → ends (replicate k 32 ++ rest) ≡ true
-unfolding afterSpaces
-from-end zero rest (inl e) = rw e
-from-end zero rest (inr e) = rw (e .1)
-from-end (suc k) rest e = from-end k rest e
+from-end k rest e = rw (spaces-passed k rest) (from-ending rest e)
 
 end-there : (t : List ℕ) → EndLine t → ends t ≡ true
 end-there t (k, rest, ending, whole) = rw whole (from-end k rest ending)

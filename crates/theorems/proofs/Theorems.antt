@@ -336,6 +336,18 @@ replay-call-told = replay.proofs.Told.call-told
 pub script-script-played : script.specs.Played.ScriptPlayed
 script-script-played = script.proofs.Played.script-played
 
+pub script-run-exactly : script.specs.Said.RunExactly
+script-run-exactly = script.proofs.Said.run-exactly
+
+pub script-listing-exactly : script.specs.Said.ListingExactly
+script-listing-exactly = script.proofs.Said.listing-exactly
+
+pub script-words-exactly : script.specs.Said.WordsExactly
+script-words-exactly = script.proofs.Said.words-exactly
+
+pub script-load-exactly : script.specs.Said.LoadExactly
+script-load-exactly = script.proofs.Said.load-exactly
+
 pub script-few-calls : script.specs.Theorems.FewCalls
 script-few-calls = script.proofs.Theorems.few-calls
 
