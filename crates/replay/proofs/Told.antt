@@ -3,20 +3,19 @@ use mathlib.Core.Path.{_≡_, refl, sym, ap, _∙_}
 use mathlib.Core.List.{List, [], _∷_, _++_, append-assoc}
 use Prim.Native.Nat.{ℕ, _*_}
 use native.Mathlib.Omega.{arith}
-use lib.ListN.{length, take, drop, replicate, length-append}
+use lib.ListN.{length, take, drop, length-append}
 use lib.Seq.{take-at, drop-at}
 use Rattle.core.specs.Cores.{visibleOf}
 use Rattle.core.specs.Spent.{spentOf}
 use Rattle.core.specs.Calls.{Answer}
 use Rattle.core.specs.declared.Core.{Core}
-use Rattle.layout.specs.Layout.{answerSize, answerNumbers}
+use Rattle.layout.specs.Layout.{answerNumbers}
 use Rattle.layout.proofs.Sizes.{left-size}
 use Rattle.plays.specs.Plays.{play}
-use Rattle.machine.specs.Theorem.{Call, State, state, freshState, onCore}
-use Rattle.replay.specs.Replay.{readCall, callOf, Reading, listed, noCall, noStretch, readThen, readFrom, CallPlayed, callPlayed, numbersThen, placesFor, Replayed}
+use Rattle.machine.specs.Theorem.{freshState, onCore}
+use Rattle.replay.specs.Replay.{readCall, callOf, listed, readThen, readFrom, callPlayed, numbersThen, placesFor, Replayed}
 use Rattle.replay.specs.ReplayParts.{coreLeft, coreNumbers}
-use Rattle.replay.specs.Theorems.{CoreTold, CallTold}
-use Rattle.replay.specs.declared.CallAnswer.the-variants as callAnswer
+use Rattle.replay.specs.Theorems.{CoreTold, Tells, CallTold}
 use Rattle.replay.specs.declared.ReadCall.{ReadCall}
 use Rattle.replay.specs.declared.ReadCall.the-variants as readAs
 use Rattle.replay.proofs.Plays.{numbers-length}
@@ -52,19 +51,9 @@ core-told calls memory answers h =
       ap (drop 23) behind ∙ drop-at left rest 23 (last) ∙ ap (λ (n : ℕ). drop n answers) whole,
     )
 
--- what a single call tells, by what its three numbers are read as
+-- by what the three numbers are read as
 module _ (core : Core) (memory : List ℕ) where
-  abbrev Tells : CallPlayed → Reading → Type 0
-  Tells told read =
-      let left : State = state (told .reply .core) (told .reply .memory) in
-      ((c : Call) → read ≡ listed (c ∷ [])
-      → (told .answer ≡ callAnswer.Played)
-      × (told .reply .numbers ≡ answerNumbers (onCore c (state core memory) .0))
-      × (left ≡ onCore c (state core memory) .1))
-      × (read ≡ noCall 0 → (told .answer ≡ callAnswer.NoCall) × (told .reply .numbers ≡ replicate answerSize 0) × (left ≡ state core memory))
-      × (read ≡ noStretch 0 → (told .answer ≡ callAnswer.NoStretch) × (told .reply .numbers ≡ replicate answerSize 0) × (left ≡ state core memory))
-
-  tells : (text : List ℕ) (r : ReadCall) → Tells (callPlayed text r core memory) (readThen text 0 r (listed []))
+  tells : (text : List ℕ) (r : ReadCall) → Tells core memory (callPlayed text r core memory) (readThen text 0 r (listed []))
   tells text (readAs.Read call) = (
     λ c e. let same : callOf text call ≡ c = cc in rw (← same) (refl, refl, refl),
     λ e. let z : _≡_ {A = ℕ} 0 1 = cc in absurd (omega arith),

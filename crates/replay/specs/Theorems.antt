@@ -30,13 +30,10 @@ CoreTold =
     × (take answerSize behind ≡ leftNumbers (visibleOf core) (spentOf core) (core .clock .0))
     × (drop answerSize behind ≡ drop (placesFor calls) answers)
 
--- a single call is what a list of it alone is read as. It answers the numbers of that call, and leaves the core and the memory that it leaves, as in
--- every list (`onCore`); three numbers that are no call, or name no stretch, leave both and answer zeros (proved as `call-told`)
-abbrev pub CallTold : Type 0
-CallTold =
-    (text : List ℕ) (kind first second : ℕ) (core : Core) (memory : List ℕ)
-    → let told : CallPlayed = callPlayed text (readCall kind first second (length text)) core memory in
-    let read : Reading = readCalls text (kind ∷ first ∷ second ∷ []) in
+-- what a single call tells on a core and a memory, by what a list of it alone is read as: it answers the numbers of that call, and leaves the core
+-- and the memory that it leaves in every list (`onCore`); three numbers that are no call, or name no stretch, leave both and answer zeros
+abbrev pub Tells : Core → List ℕ → CallPlayed → Reading → Type 0
+Tells core memory told read =
     let left : State = state (told .reply .core) (told .reply .memory) in
     ((c : Call) → read ≡ listed (c ∷ [])
     → (told .answer ≡ callAnswer.Played)
@@ -44,3 +41,9 @@ CallTold =
     × (left ≡ onCore c (state core memory) .1))
     × (read ≡ noCall 0 → (told .answer ≡ callAnswer.NoCall) × (told .reply .numbers ≡ replicate answerSize 0) × (left ≡ state core memory))
     × (read ≡ noStretch 0 → (told .answer ≡ callAnswer.NoStretch) × (told .reply .numbers ≡ replicate answerSize 0) × (left ≡ state core memory))
+
+-- so does every call of three numbers (proved as `call-told`)
+abbrev pub CallTold : Type 0
+CallTold =
+    (text : List ℕ) (kind first second : ℕ) (core : Core) (memory : List ℕ)
+    → Tells core memory (callPlayed text (readCall kind first second (length text)) core memory) (readCalls text (kind ∷ first ∷ second ∷ []))
