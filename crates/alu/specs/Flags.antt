@@ -13,32 +13,32 @@ abbrev pub silent : ℕ → Flags → Outcome
 silent r flags = record { value = r; flags = flags }
 
 -- a result that sets all four: 'N (result bit 15) and Z (result zero)', C and V as given
-abbrev pub setsAll : ℕ → Bool → Bool → Outcome
-setsAll r carry overflow = record { value = r; flags = record { n = bit15 r; z = eqb r 0; c = carry; v = overflow } }
+abbrev pub sets_all : ℕ → Bool → Bool → Outcome
+sets_all r carry overflow = record { value = r; flags = record { n = bit15 r; z = eqb r 0; c = carry; v = overflow } }
 
 -- one that sets N and Z, with C and V as they were
-abbrev pub setsNZ : ℕ → Flags → Outcome
-setsNZ r flags = setsAll r flags.c flags.v
+abbrev pub sets_nz : ℕ → Flags → Outcome
+sets_nz r flags = sets_all r flags.c flags.v
 
 -- from bits 15 of p, q and the result: 'V when the operands' bits 15 agree and the result's differs'
-abbrev pub sumOverflows : Bool → Bool → Bool → Bool
-sumOverflows true true r = not r
-sumOverflows true false r = false
-sumOverflows false true r = false
-sumOverflows false false r = r
+abbrev pub sum_overflows : Bool → Bool → Bool → Bool
+sum_overflows true true r = not r
+sum_overflows true false r = false
+sum_overflows false true r = false
+sum_overflows false false r = r
 
 -- likewise for p minus q: 'V when their bits 15 differ and the result's differs from p's'
-abbrev pub differenceOverflows : Bool → Bool → Bool → Bool
-differenceOverflows true true r = false
-differenceOverflows true false r = not r
-differenceOverflows false true r = r
-differenceOverflows false false r = false
+abbrev pub difference_overflows : Bool → Bool → Bool → Bool
+difference_overflows true true r = false
+difference_overflows true false r = not r
+difference_overflows false true r = r
+difference_overflows false false r = false
 
 -- 'For a sum, C is set when the unreduced sum is 65,536 or more'
 abbrev pub added : ℕ → ℕ → Outcome
-added p q = setsAll (sum p q) (leb 65536 (p + q)) (sumOverflows (bit15 p) (bit15 q) (bit15 (sum p q)))
+added p q = sets_all (sum p q) (leb 65536 (p + q)) (sum_overflows (bit15 p) (bit15 q) (bit15 (sum p q)))
 
 -- 'For p minus q, C is set when p >= q unsigned'
 abbrev pub subtracted : ℕ → ℕ → Outcome
 subtracted p q =
-    setsAll (difference p q) (leb q p) (differenceOverflows (bit15 p) (bit15 q) (bit15 (difference p q)))
+    sets_all (difference p q) (leb q p) (difference_overflows (bit15 p) (bit15 q) (bit15 (difference p q)))

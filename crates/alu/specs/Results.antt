@@ -10,27 +10,27 @@ use Rattle.isa.specs.declared.ConstantOp.TheVariants.{Addi, Subi, Ldl, Ldh}
 use Rattle.isa.specs.declared.UnaryOp.{UnaryOp}
 use Rattle.isa.specs.declared.UnaryOp.TheVariants.{Sl0, Sl1, Sr0, Sr1, Not}
 use Rattle.alu.specs.declared.Outcome.{Outcome}
-use Rattle.alu.specs.Flags.{silent, setsNZ, added, subtracted}
+use Rattle.alu.specs.Flags.{silent, sets_nz, added, subtracted}
 
 -- 'ADD, SUB, AND, OR, XOR: Rt from Ra, Rb', which are here p and q
-abbrev pub binaryResult : BinaryOp → ℕ → ℕ → Flags → Outcome
-binaryResult Add p q flags = added p q
-binaryResult Sub p q flags = subtracted p q
-binaryResult And p q flags = setsNZ (conjunction p q) flags
-binaryResult Or p q flags = setsNZ (disjunction p q) flags
-binaryResult Xor p q flags = setsNZ (exclusive p q) flags
+abbrev pub binary_result : BinaryOp → ℕ → ℕ → Flags → Outcome
+binary_result Add p q flags = added p q
+binary_result Sub p q flags = subtracted p q
+binary_result And p q flags = sets_nz (conjunction p q) flags
+binary_result Or p q flags = sets_nz (disjunction p q) flags
+binary_result Xor p q flags = sets_nz (exclusive p q) flags
 
 -- 'ADDI, SUBI: Rt plus or minus k'; LDL: 'k replaces the low byte of Rt'; LDH: 'k replaces the high byte'. Rt is here p
-abbrev pub constantResult : ConstantOp → ℕ → ℕ → Flags → Outcome
-constantResult Addi p k flags = added p k
-constantResult Subi p k flags = subtracted p k
-constantResult Ldl p k flags = silent (p / 256 * 256 + k) flags
-constantResult Ldh p k flags = silent (k * 256 + p % 256) flags
+abbrev pub constant_result : ConstantOp → ℕ → ℕ → Flags → Outcome
+constant_result Addi p k flags = added p k
+constant_result Subi p k flags = subtracted p k
+constant_result Ldl p k flags = silent (p / 256 * 256 + k) flags
+constant_result Ldh p k flags = silent (k * 256 + p % 256) flags
 
 -- SL0, SL1: 'Ra left by one, 0 or 1 enters'; SR0, SR1: 'right by one'; 'NOT Ra'. Ra is here p
-abbrev pub unaryResult : UnaryOp → ℕ → Flags → Outcome
-unaryResult Sl0 p flags = setsNZ (left p false) flags
-unaryResult Sl1 p flags = setsNZ (left p true) flags
-unaryResult Sr0 p flags = setsNZ (right p false) flags
-unaryResult Sr1 p flags = setsNZ (right p true) flags
-unaryResult Not p flags = setsNZ (complement p) flags
+abbrev pub unary_result : UnaryOp → ℕ → Flags → Outcome
+unary_result Sl0 p flags = sets_nz (left p false) flags
+unary_result Sl1 p flags = sets_nz (left p true) flags
+unary_result Sr0 p flags = sets_nz (right p false) flags
+unary_result Sr1 p flags = sets_nz (right p true) flags
+unary_result Not p flags = sets_nz (complement p) flags

@@ -1,7 +1,7 @@
 // Arithmetic with flags: what o 0 to 8 and SL0 to NOT give, value and N, Z, C, V.
 ghost use Rattle.std.specs.Prelude.{◌≡◌};
-ghost use Rattle.alu.specs.Flags.{bit15, setsNZ, setsAll, sumOverflows, differenceOverflows, added, subtracted};
-ghost use Rattle.alu.specs.Results.{binaryResult, constantResult, unaryResult};
+ghost use Rattle.alu.specs.Flags.{bit15, sets_nz, sets_all, sum_overflows, difference_overflows, added, subtracted};
+ghost use Rattle.alu.specs.Results.{binary_result, constant_result, unary_result};
 
 use isa::{BinaryOp, ConstantOp, Flags, UnaryOp};
 
@@ -20,7 +20,7 @@ fn top_bit(p: u16) -> bool
 
 // A result that sets all flags, C and V as given.
 fn with_all(value: u16, carry: bool, overflow: bool) -> Outcome
-    ensures { result ≡ setsAll value carry overflow }
+    ensures { result ≡ sets_all value carry overflow }
 {
     let after = Flags {
         n: 32768 <= value,
@@ -36,13 +36,13 @@ fn with_all(value: u16, carry: bool, overflow: bool) -> Outcome
 
 // A result that sets N and Z and keeps C and V.
 fn with_nz(value: u16, flags: Flags) -> Outcome
-    ensures { result ≡ setsNZ value flags }
+    ensures { result ≡ sets_nz value flags }
 {
     with_all(value, flags.c, flags.v)
 }
 
 fn sum_overflows(p: bool, q: bool, r: bool) -> bool
-    ensures { result ≡ sumOverflows p q r }
+    ensures { result ≡ sum_overflows p q r }
 {
     if p {
         if q { !r } else { false }
@@ -52,7 +52,7 @@ fn sum_overflows(p: bool, q: bool, r: bool) -> bool
 }
 
 fn difference_overflows(p: bool, q: bool, r: bool) -> bool
-    ensures { result ≡ differenceOverflows p q r }
+    ensures { result ≡ difference_overflows p q r }
 {
     if p {
         if q { false } else { !r }
@@ -81,7 +81,7 @@ fn subtract(p: u16, q: u16) -> Outcome
 
 // ADD, SUB, AND, OR, XOR of Ra and Rb.
 pub fn binary(op: BinaryOp, p: u16, q: u16, flags: Flags) -> Outcome
-    ensures { result ≡ binaryResult op p q flags }
+    ensures { result ≡ binary_result op p q flags }
 {
     match op {
         BinaryOp::Add => add(p, q),
@@ -94,7 +94,7 @@ pub fn binary(op: BinaryOp, p: u16, q: u16, flags: Flags) -> Outcome
 
 // ADDI, SUBI, LDL, LDH of Rt and the constant k.
 pub fn constant(op: ConstantOp, p: u16, k: u8, flags: Flags) -> Outcome
-    ensures { result ≡ constantResult op p k flags }
+    ensures { result ≡ constant_result op p k flags }
 {
     match op {
         ConstantOp::Addi => add(p, k as u16),
@@ -112,7 +112,7 @@ pub fn constant(op: ConstantOp, p: u16, k: u8, flags: Flags) -> Outcome
 
 // SL0, SL1, SR0, SR1, NOT of Ra.
 pub fn unary(op: UnaryOp, p: u16, flags: Flags) -> Outcome
-    ensures { result ≡ unaryResult op p flags }
+    ensures { result ≡ unary_result op p flags }
 {
     match op {
         UnaryOp::Sl0 => with_nz(words::shift_left(p, false), flags),

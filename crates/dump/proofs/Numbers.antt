@@ -7,31 +7,31 @@ use native.Mathlib.Omega.{arith}
 use borrow.Author.Tests.{ltb-false}
 use lib.Dec.{eqb, ltb}
 use lib.ListN.{length, drop}
-use Rattle.refusals.specs.Refusals.{wrongLength, firstNumber}
-use Rattle.dump.specs.Dump.{listingText, pastEnd, tooShort, dumpNumber, written, refused, refusedAt, dumped}
+use Rattle.refusals.specs.Refusals.{wrong_length, first_number}
+use Rattle.dump.specs.Dump.{listing_text, past_end, too_short, dump_number, written, refused, refused_at, dumped}
 
-pub right-length : (L : ℕ) → wrongLength L ≡ false → L ≤ 65536
-right-length L = by (eqb L 0) where
+pub right_length : (L : ℕ) → wrong_length L ≡ false → L ≤ 65536
+right_length L = by (eqb L 0) where
   by : (b : Bool) → cond b true (ltb 65536 L) ≡ false → L ≤ 65536
   by true e = let z : ◌≡◌ {A = ℕ} 0 1 = cc in absurd (omega arith)
   by false e = ltb-false 65536 L e
 
 module _ (memory : List ℕ) (first count : ℕ) (text : List ℕ) where
-  pub wrong : wrongLength (length memory) ≡ true → dumped memory first count text ≡ record { answer = refused 1; text = text }
-  unfolding dumped dumpNumber firstNumber
+  pub wrong : wrong_length (length memory) ≡ true → dumped memory first count text ≡ record { answer = refused 1; text = text }
+  unfolding dumped dump_number first_number
   wrong e = rw e
 
-  module _ (right : wrongLength (length memory) ≡ false) where
-    pub past : pastEnd (length memory) first count ≡ true → dumped memory first count text ≡ record { answer = refusedAt 4 0; text = text }
-    unfolding dumped dumpNumber firstNumber
+  module _ (right : wrong_length (length memory) ≡ false) where
+    pub past : past_end (length memory) first count ≡ true → dumped memory first count text ≡ record { answer = refused_at 4 0; text = text }
+    unfolding dumped dump_number first_number
     past e = rw (right, e)
 
-    module _ (within : pastEnd (length memory) first count ≡ false) where
-      pub short : tooShort (length text) count ≡ true → dumped memory first count text ≡ record { answer = refused 10; text = text }
-      unfolding dumped dumpNumber firstNumber
+    module _ (within : past_end (length memory) first count ≡ false) where
+      pub short : too_short (length text) count ≡ true → dumped memory first count text ≡ record { answer = refused 10; text = text }
+      unfolding dumped dump_number first_number
       short e = rw (right, within, e)
 
-      pub taken : tooShort (length text) count ≡ false
-          → dumped memory first count text ≡ record { answer = written (10 * count); text = listingText memory first count ++ drop (10 * count) text }
-      unfolding dumped dumpNumber firstNumber
+      pub taken : too_short (length text) count ≡ false
+          → dumped memory first count text ≡ record { answer = written (10 * count); text = listing_text memory first count ++ drop (10 * count) text }
+      unfolding dumped dump_number first_number
       taken e = rw (right, within, e)

@@ -7,14 +7,14 @@ use native.Mathlib.Omega.{arith}
 use lib.ListN.{length, drop, set}
 use lib.Seq.{sets, sets-eq}
 use Rattle.words.specs.Memory.{word_at}
-use Rattle.hexadecimal.specs.Digits.{wordText}
-use Rattle.dump.specs.Dump.{entryText, listingText}
+use Rattle.hexadecimal.specs.Digits.{word_text}
+use Rattle.dump.specs.Dump.{entry_text, listing_text}
 
 -- stores of one list and then of another are those of both
-sets-append : (xs ys l : List ℕ) (i : ℕ) → sets l i (xs ++ ys) ≡ sets (sets l i xs) (i + length xs) ys
-sets-append [] ys l i = ap (λ (k : ℕ). sets l k ys) (sym (add-zero i))
-sets-append (x ∷ xs) ys l i =
-    sets-append xs ys (set l i x) (suc i)
+sets_append : (xs ys l : List ℕ) (i : ℕ) → sets l i (xs ++ ys) ≡ sets (sets l i xs) (i + length xs) ys
+sets_append [] ys l i = ap (λ (k : ℕ). sets l k ys) (sym (add-zero i))
+sets_append (x ∷ xs) ys l i =
+    sets_append xs ys (set l i x) (suc i)
     ∙ ap (λ (k : ℕ). sets (sets (set l i x) (suc i) xs) k ys) (suc-add i (length xs) ∙ sym (add-suc i (length xs)))
 
 -- places near one, as `sets` counts them
@@ -34,36 +34,36 @@ nine : (n : ℕ) → n + 9 ≡ suc (suc (suc (suc (suc (suc (suc (suc (suc n))))
 nine n = omega arith
 
 -- a line by its parts
-pub line-written : (text : List ℕ) (at address word : ℕ)
-    → set (sets (set (sets text at (wordText address)) (at + 4) 32) (at + 5) (wordText word)) (at + 9) 10 ≡ sets text at (entryText address word)
-line-written text at address word = rw (four, five, nine)
+pub line_written : (text : List ℕ) (at address word : ℕ)
+    → set (sets (set (sets text at (word_text address)) (at + 4) 32) (at + 5) (word_text word)) (at + 9) 10 ≡ sets text at (entry_text address word)
+line_written text at address word = rw (four, five, nine)
 
-pub lines-length : (memory : List ℕ) (first count : ℕ) → length (listingText memory first count) ≡ 10 * count
-unfolding listingText
-lines-length memory first zero = refl
-lines-length memory first (suc count) = let more = lines-length memory (first + 1) count in omega arith
+pub lines_length : (memory : List ℕ) (first count : ℕ) → length (listing_text memory first count) ≡ 10 * count
+unfolding listing_text
+lines_length memory first zero = refl
+lines_length memory first (suc count) = let more = lines_length memory (first + 1) count in omega arith
 
 -- a line more, and the lines after it
-pub line-more : (memory text : List ℕ) (first count i : ℕ) → i < count
-    → sets text (10 * i) (listingText memory (first + i) (count - i))
-    ≡ sets (sets text (10 * i) (entryText (first + i) (word_at memory (first + i)))) (10 * (i + 1)) (listingText memory (first + (i + 1)) (count - (i + 1)))
-unfolding listingText
-line-more memory text first count i h =
+pub line_more : (memory text : List ℕ) (first count i : ℕ) → i < count
+    → sets text (10 * i) (listing_text memory (first + i) (count - i))
+    ≡ sets (sets text (10 * i) (entry_text (first + i) (word_at memory (first + i)))) (10 * (i + 1)) (listing_text memory (first + (i + 1)) (count - (i + 1)))
+unfolding listing_text
+line_more memory text first count i h =
     let left : count - i ≡ suc (count - (i + 1)) = omega arith in
-    let line = entryText (first + i) (word_at memory (first + i)) in
-    ap (λ (n : ℕ). sets text (10 * i) (listingText memory (first + i) n)) left
-    ∙ sets-append line (listingText memory (first + i + 1) (count - (i + 1))) text (10 * i)
-    ∙ ap (λ (n : ℕ). sets (sets text (10 * i) line) n (listingText memory (first + i + 1) (count - (i + 1)))) (omega arith)
-    ∙ ap (λ (n : ℕ). sets (sets text (10 * i) line) (10 * (i + 1)) (listingText memory n (count - (i + 1)))) (omega arith)
+    let line = entry_text (first + i) (word_at memory (first + i)) in
+    ap (λ (n : ℕ). sets text (10 * i) (listing_text memory (first + i) n)) left
+    ∙ sets_append line (listing_text memory (first + i + 1) (count - (i + 1))) text (10 * i)
+    ∙ ap (λ (n : ℕ). sets (sets text (10 * i) line) n (listing_text memory (first + i + 1) (count - (i + 1)))) (omega arith)
+    ∙ ap (λ (n : ℕ). sets (sets text (10 * i) line) (10 * (i + 1)) (listing_text memory n (count - (i + 1)))) (omega arith)
 
-pub none_left : (memory text : List ℕ) (address at : ℕ) {left : ℕ} → left ≡ 0 → sets text at (listingText memory address left) ≡ text
-unfolding listingText
+pub none_left : (memory text : List ℕ) (address at : ℕ) {left : ℕ} → left ≡ 0 → sets text at (listing_text memory address left) ≡ text
+unfolding listing_text
 none_left memory text address at e = rw e
 
 -- all of them, from the first place on
 pub all_lines : (memory text : List ℕ) (first count : ℕ) → 10 * count ≤ length text
-    → listingText memory first count ++ drop (10 * count) text ≡ sets text 0 (listingText memory first count)
+    → listing_text memory first count ++ drop (10 * count) text ≡ sets text 0 (listing_text memory first count)
 all_lines memory text first count h =
-    let size = lines-length memory first count in
-    let start : 0 + length (listingText memory first count) ≡ 10 * count = omega arith in
-    sym (sets-eq (listingText memory first count) text 0 (omega arith) ∙ ap (λ (n : ℕ). listingText memory first count ++ drop n text) start)
+    let size = lines_length memory first count in
+    let start : 0 + length (listing_text memory first count) ≡ 10 * count = omega arith in
+    sym (sets-eq (listing_text memory first count) text 0 (omega arith) ∙ ap (λ (n : ℕ). listing_text memory first count ++ drop n text) start)

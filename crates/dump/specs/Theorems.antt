@@ -3,35 +3,35 @@
 -- proofs/LoadedBack.antt and proofs/Apart.antt.
 use Rattle.std.specs.Prelude.{◌≡◌, ◌↔◌, ◌⊎◌, List, [], ◌∷◌, ℕ, ◌+◌, ◌*◌, ◌/◌, ◌%◌, ◌≤◌, ◌<◌, length, get_or, take}
 use Rattle.words.specs.Memory.{word_at}
-use Rattle.refusals.specs.Refusals.{refusalNumber}
+use Rattle.refusals.specs.Refusals.{refusal_number}
 use Rattle.refusals.specs.Theorems.{First, NoneApplies}
 use Rattle.refusals.specs.declared.Refusal.{Refusal}
-use Rattle.listing.specs.Answers.{faultNumber}
+use Rattle.listing.specs.Answers.{fault_number}
 use Rattle.listing.specs.declared.Fault.{Fault}
 use Rattle.hexadecimal.specs.Theorems.{capitals}
 use Rattle.r8_core.specs.Calls.{stored, Reply, load}
 use Rattle.r8_core.specs.declared.Core.{Core}
-use Rattle.dump.specs.Dump.{written, refused, refusedAt, Dumped, dumped, answer_of}
+use Rattle.dump.specs.Dump.{written, refused, refused_at, Dumped, dumped, answer_of}
 use Rattle.dump.specs.declared.DumpAnswer.{DumpAnswer}
 use Rattle.dump.specs.declared.DumpAnswer.TheVariants.{Written, Refused, Faulty}
 
 -- the numbers in their order: 'L is 0 or above 65,536', 'First address plus count above L', 'the lent text is shorter than ten bytes a word'
-abbrev pub dumpNumbers : List ℕ → ℕ → ℕ → List ℕ → List (ℕ × Type 0)
-dumpNumbers memory first count text =
+abbrev pub dump_numbers : List ℕ → ℕ → ℕ → List ℕ → List (ℕ × Type 0)
+dump_numbers memory first count text =
     (1, (length memory ≡ 0) ⊎ (65536 < length memory))
     ∷ (4, length memory < first + count)
     ∷ (10, length text < 10 * count)
     ∷ []
 
 -- the first that applies is answered, 4 with the offset 0, and the text is as it was; where none does, ten bytes a word are written (proved as
--- `dump-numbers`)
+-- `dump_numbers_lem`)
 abbrev pub DumpNumbers : Type 0
 DumpNumbers =
     (memory : List ℕ) (first count : ℕ) (text : List ℕ)
     → let gave : Dumped = dumped memory first count text in
-    let numbers : List (ℕ × Type 0) = dumpNumbers memory first count text in
+    let numbers : List (ℕ × Type 0) = dump_numbers memory first count text in
     ((n : ℕ) → (gave.answer ≡ refused n) ↔ (First n numbers × ((n ≡ 1) ⊎ (n ≡ 10))))
-    × ((n offset : ℕ) → (gave.answer ≡ refusedAt n offset) ↔ (First n numbers × (n ≡ 4) × (offset ≡ 0)))
+    × ((n offset : ℕ) → (gave.answer ≡ refused_at n offset) ↔ (First n numbers × (n ≡ 4) × (offset ≡ 0)))
     × ((bytes : ℕ) → (gave.answer ≡ written bytes) ↔ (NoneApplies numbers × (bytes ≡ 10 * count)))
     × ((n : ℕ) → First n numbers → gave.text ≡ text)
 
@@ -52,7 +52,7 @@ abbrev pub EntryAt : List ℕ → ℕ → ℕ → ℕ → Type 0
 EntryAt text at address word =
     DigitsAt text at address × (get_or text (at + 4) 0 ≡ 32) × DigitsAt text (at + 5) word × (get_or text (at + 9) 0 ≡ 10)
 
--- the lines follow each other, 'ten bytes each', and 'Text bytes past the last line stay' (proved as `dump-bytes`)
+-- the lines follow each other, 'ten bytes each', and 'Text bytes past the last line stay' (proved as `dump_bytes`)
 abbrev pub DumpBytes : Type 0
 DumpBytes =
     (memory : List ℕ) (first count bytes : ℕ) (text : List ℕ)
@@ -67,7 +67,7 @@ abbrev pub Words : List ℕ → Type 0
 Words memory = (x : ℕ) → word_at memory x < 65536
 
 -- 'Loading the written lines into any memory of the same length, on a core with cycle 1 due, gives the same words at those addresses and changes
--- no others'. The written lines are the first ten bytes for each word; the load answers the count, and leaves the core (proved as `loaded-back`)
+-- no others'. The written lines are the first ten bytes for each word; the load answers the count, and leaves the core (proved as `loaded_back`)
 abbrev pub LoadedBack : Type 0
 LoadedBack =
     (memory other text : List ℕ) (first count bytes : ℕ) (core : Core)
@@ -80,7 +80,7 @@ LoadedBack =
     × ((x : ℕ) → first ≤ x → x < first + count → word_at reply.memory x ≡ word_at memory x)
     × ((x : ℕ) → (x < first) ⊎ (first + count ≤ x) → word_at reply.memory x ≡ word_at other x)
 
--- so a full memory, 655,360 bytes of text, comes back whole (proved as `whole-memory`)
+-- so a full memory, 655,360 bytes of text, comes back whole (proved as `whole_memory`)
 abbrev pub WholeMemory : Type 0
 WholeMemory =
     (memory other text : List ℕ) (core : Core)
@@ -89,14 +89,14 @@ WholeMemory =
     let reply : Reply = load (take 655360 gave.text) core other in
     (gave.answer ≡ written 655360) × (reply.answer ≡ stored 65536) × (reply.memory ≡ memory)
 
--- 'this paper's number and values for each of its cases': different answers are read differently (proved as `dump-apart`)
+-- 'this paper's number and values for each of its cases': different answers are read differently (proved as `dump_apart`)
 abbrev pub DumpApart : Type 0
 DumpApart = (x y : DumpAnswer) → answer_of x ≡ answer_of y → x ≡ y
 
--- and each as its own bytes, number, or number and offset (proved as `dump-read`)
+-- and each as its own bytes, number, or number and offset (proved as `dump_read`)
 abbrev pub DumpRead : Type 0
 DumpRead =
     (n : ℕ) (why : Refusal) (fault : Fault)
     → (answer_of (Written n) ≡ written n)
-    × (answer_of (Refused why) ≡ refused (refusalNumber why))
-    × (answer_of (Faulty fault n) ≡ refusedAt (faultNumber fault) n)
+    × (answer_of (Refused why) ≡ refused (refusal_number why))
+    × (answer_of (Faulty fault n) ≡ refused_at (fault_number fault) n)

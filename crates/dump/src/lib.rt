@@ -1,8 +1,8 @@
 // Listings back out of memory: words of a lent memory, written as lines of a listing into a lent text. No core is taken.
 ghost use Rattle.std.specs.Prelude.{◌≡◌, ◌++◌, ◌+◌, ◌*◌, ◌≤◌, length, drop};
 ghost use Rattle.std.proofs.lemmas.List.Edits.{sets};
-ghost use Rattle.hexadecimal.specs.Digits.{wordText};
-ghost use Rattle.dump.specs.Dump.{entryText, listingText, pastEnd, dumpGave, dumped};
+ghost use Rattle.hexadecimal.specs.Digits.{word_text};
+ghost use Rattle.dump.specs.Dump.{entry_text, listing_text, past_end, dump_gave, dumped};
 
 use listing::Fault;
 use refusals::Refusal;
@@ -20,7 +20,7 @@ pub enum DumpAnswer {
 
 // Whether first plus count is above the limit; the sum itself may be above every usize.
 fn past_end(limit: usize, first: usize, count: usize) -> bool
-    ensures { result ≡ pastEnd limit first count }
+    ensures { result ≡ past_end limit first count }
 {
     if limit < first {
         return true;
@@ -31,7 +31,7 @@ fn past_end(limit: usize, first: usize, count: usize) -> bool
 // A word's four digits, from a place of the text on.
 fn put_word(text: &mut [u8], at: usize, word: u16)
     requires { at + 4 ≤ length text.old }
-    ensures { text.new ≡ sets text.old at (wordText word) }
+    ensures { text.new ≡ sets text.old at (word_text word) }
 {
     let digits = hexadecimal::word_text(word);
     text[at] = digits[0];
@@ -43,7 +43,7 @@ fn put_word(text: &mut [u8], at: usize, word: u16)
 // A line, from a place of the text on.
 fn put_line(text: &mut [u8], at: usize, address: u16, word: u16)
     requires { at + 10 ≤ length text.old }
-    ensures { text.new ≡ sets text.old at (entryText address word) }
+    ensures { text.new ≡ sets text.old at (entry_text address word) }
 {
     put_word(text, at, address);
     text[at + 4] = b' ';
@@ -54,7 +54,7 @@ fn put_line(text: &mut [u8], at: usize, address: u16, word: u16)
 // The lines of a range that lies in the memory, into a text that has room for them.
 fn put_lines(memory: &[u16], first: usize, count: usize, text: &mut [u8])
     requires { (first + count ≤ length memory.now) × (length memory.now ≤ 65536) × (10 * count ≤ length text.old) }
-    ensures { text.new ≡ listingText memory.now first count ++ drop (10 * count) text.old }
+    ensures { text.new ≡ listing_text memory.now first count ++ drop (10 * count) text.old }
 {
     for i in 0..count {
         let address = first + i;
@@ -65,7 +65,7 @@ fn put_lines(memory: &[u16], first: usize, count: usize, text: &mut [u8])
 // Words of the memory, count of them from the address first on, as listing lines from the text's first byte on; what is past them stays.
 // Refused with 1, 4 or 10, the first that applies, it leaves the text as it was.
 pub fn listing(memory: &[u16], first: usize, count: usize, text: &mut [u8]) -> DumpAnswer
-    ensures { dumpGave result text.new ≡ dumped memory.now first count text.old }
+    ensures { dump_gave result text.new ≡ dumped memory.now first count text.old }
 {
     if refusals::wrong_length(memory.len()) {
         return DumpAnswer::Refused(Refusal::WrongLength);

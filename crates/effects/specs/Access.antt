@@ -10,21 +10,21 @@ pub data Access : Type 0 where
   read : Access
   write : Access
 
-abbrev pub accessOf : Kind → Access
-accessOf Undefined = none
-accessOf (Binary op) = none
-accessOf (Constant op) = none
-accessOf Ld = read
-accessOf St = write
-accessOf (Unary op) = none
-accessOf Nop = none
-accessOf Halt = none
-accessOf Ldsp = none
-accessOf Rts = read
-accessOf Pop = read
-accessOf Push = write
-accessOf (Jump condition target) = none
-accessOf (Call target) = write
+abbrev pub access_of : Kind → Access
+access_of Undefined = none
+access_of (Binary op) = none
+access_of (Constant op) = none
+access_of Ld = read
+access_of St = write
+access_of (Unary op) = none
+access_of Nop = none
+access_of Halt = none
+access_of Ldsp = none
+access_of Rts = read
+access_of Pop = read
+access_of Push = write
+access_of (Jump condition target) = none
+access_of (Call target) = write
 
 -- the address: SP for PUSH and the calls, RALU for LD, ST, POP and RTS (and for all others, which make none)
 abbrev pub address_of : Kind → Hidden → Effect → ℕ

@@ -3,15 +3,15 @@ use Rattle.std.specs.Prelude.{ℕ}
 use Rattle.effects.specs.declared.Hidden.{Hidden}
 
 -- 'zero everywhere'
-abbrev pub noHidden : Hidden
-noHidden = record { ir = 0; ra = 0; rb = 0; ralu = 0 }
+abbrev pub no_hidden : Hidden
+no_hidden = record { ir = 0; ra = 0; rb = 0; ralu = 0 }
 
 -- 'IR takes ..', 'Ra takes ..; RB takes ..', 'RALU takes ..'
-abbrev pub withIr : ℕ → Hidden → Hidden
-withIr w h = record { ir = w; ra = h.ra; rb = h.rb; ralu = h.ralu }
+abbrev pub with_ir : ℕ → Hidden → Hidden
+with_ir w h = record { ir = w; ra = h.ra; rb = h.rb; ralu = h.ralu }
 
-abbrev pub withRaRb : ℕ → ℕ → Hidden → Hidden
-withRaRb Ra RB h = record { ir = h.ir; ra = Ra; rb = RB; ralu = h.ralu }
+abbrev pub with_ra_rb : ℕ → ℕ → Hidden → Hidden
+with_ra_rb Ra RB h = record { ir = h.ir; ra = Ra; rb = RB; ralu = h.ralu }
 
-abbrev pub withRalu : ℕ → Hidden → Hidden
-withRalu v h = record { ir = h.ir; ra = h.ra; rb = h.rb; ralu = v }
+abbrev pub with_ralu : ℕ → Hidden → Hidden
+with_ralu v h = record { ir = h.ir; ra = h.ra; rb = h.rb; ralu = v }

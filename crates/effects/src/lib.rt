@@ -2,9 +2,9 @@
 // and what RA and RB are after it. There is no core here: the caller hands in the registers that the word names, and writes back what comes out.
 ghost use Rattle.std.specs.Prelude.{◌≡◌};
 ghost use Rattle.alu.specs.Flags.{silent as quiet};
-ghost use Rattle.effects.specs.Effect.{toRt, toPc, toSp, stopping, storing, arithmeticResult, loaded, pushed};
+ghost use Rattle.effects.specs.Effect.{to_rt, to_pc, to_sp, stopping, storing, arithmetic_result, loaded, pushed};
 ghost use Rattle.effects.specs.Table.{jumped};
-ghost use Rattle.effects.specs.Cycles.{stopOf, calculated, writtenBack, unlessStopping, leaving, wholeInstruction};
+ghost use Rattle.effects.specs.Cycles.{stop_of, calculated, written_back, unless_stopping, leaving, whole_instruction};
 
 use alu::Outcome;
 use isa::{Flags, Kind};
@@ -53,7 +53,7 @@ pub struct Executed {
 
 // RA or RB after cycle 2: latched, unless that stops the core.
 pub fn unless_stopping(stop: Stop, new: u16, old: u16) -> u16
-    ensures { result ≡ unlessStopping stop new old }
+    ensures { result ≡ unless_stopping stop new old }
 {
     match stop {
         Stop::Going => new,
@@ -63,21 +63,21 @@ pub fn unless_stopping(stop: Stop, new: u16, old: u16) -> u16
 }
 
 fn to_rt(mut effect: Effect, value: u16) -> Effect
-    ensures { result ≡ toRt value effect }
+    ensures { result ≡ to_rt value effect }
 {
     effect.rt = value;
     effect
 }
 
 fn to_pc(mut effect: Effect, value: u16) -> Effect
-    ensures { result ≡ toPc value effect }
+    ensures { result ≡ to_pc value effect }
 {
     effect.pc = value;
     effect
 }
 
 fn to_sp(mut effect: Effect, value: u16) -> Effect
-    ensures { result ≡ toSp value effect }
+    ensures { result ≡ to_sp value effect }
 {
     effect.sp = value;
     effect
@@ -118,7 +118,7 @@ fn with_store(effect: Effect, address: u16, word: u16) -> Effect
 
 // Written anew: with its two fields set in place a run takes twice as long.
 fn with_result(effect: Effect, outcome: Outcome) -> Effect
-    ensures { result ≡ arithmeticResult outcome effect }
+    ensures { result ≡ arithmetic_result outcome effect }
 {
     let flags = outcome.flags;
     let stop = effect.stop;
@@ -165,7 +165,7 @@ fn with_ralu(effect: Effect, ralu: u16) -> Executed
 
 // o 0 to 8 and SL0 to NOT: RALU takes the value that Rt takes.
 fn arithmetic(effect: Effect, outcome: Outcome) -> Executed
-    ensures { result ≡ leaving outcome.value (arithmeticResult outcome effect) }
+    ensures { result ≡ leaving outcome.value (arithmetic_result outcome effect) }
 {
     with_ralu(with_result(effect, outcome), outcome.value)
 }
@@ -181,7 +181,7 @@ pub fn execute(
     memory: &[u16],
     before: Effect,
 ) -> Executed
-    ensures { result ≡ wholeInstruction kind word ra rb hidden memory.now before }
+    ensures { result ≡ whole_instruction kind word ra rb hidden memory.now before }
 {
     let ralu = hidden.ralu;
     let flags = before.flags;
@@ -221,7 +221,7 @@ pub fn execute(
 
 // The stop state that cycle 2 sets; `Going` where it stops nothing.
 pub fn stop_of(kind: Kind) -> Stop
-    ensures { result ≡ stopOf kind }
+    ensures { result ≡ stop_of kind }
 {
     match kind {
         Kind::Undefined => Stop::Undefined,
@@ -281,7 +281,7 @@ pub fn calculate(kind: Kind, hidden: Hidden, before: Effect) -> Outcome
 
 // Cycle 4: what is written back.
 pub fn write_back(kind: Kind, hidden: Hidden, memory: &[u16], before: Effect) -> Effect
-    ensures { result ≡ writtenBack kind hidden memory.now before }
+    ensures { result ≡ written_back kind hidden memory.now before }
 {
     let ralu = hidden.ralu;
     let flags = before.flags;

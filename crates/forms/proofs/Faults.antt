@@ -12,7 +12,7 @@ use Rattle.table.specs.Table.{word_of}
 use Rattle.forms.specs.declared.Operands.{Operands}
 use Rattle.forms.specs.Answers.{Answer, given, refused}
 use Rattle.forms.specs.Operands.{outside, fault, placed}
-use Rattle.forms.specs.Writing.{writtenAt}
+use Rattle.forms.specs.Writing.{written_at}
 
 -- no answer is both a refusal and given
 pub never : {A : Type 0} {n : ℕ} {x : A} → refused n ≡ given x → ⊥
@@ -48,27 +48,27 @@ sound o e =
       long = e₅.1;
     }
 
-pub no-fault : (o : Operands) → Sound o → fault o ≡ false
+pub no_fault : (o : Operands) → Sound o → fault o ≡ false
 unfolding fault
-no-fault o s =
+no_fault o s =
     rw
     (le-ltb 15 o.0 s.t, le-ltb 15 o.1 s.a, le-ltb 15 o.2 s.b, le-ltb 255 o.3 s.k, s.short, s.long)
 
 -- sound operands are written, and only they are
-pub writes : (n : ℕ) (o : Operands) → Sound o → writtenAt n o ≡ given (sum (word_of n) (placed o))
-unfolding writtenAt
-writes n o s = rw (no-fault o s)
+pub writes : (n : ℕ) (o : Operands) → Sound o → written_at n o ≡ given (sum (word_of n) (placed o))
+unfolding written_at
+writes n o s = rw (no_fault o s)
 
-pub wrote : (n : ℕ) (o : Operands) (w : ℕ) → writtenAt n o ≡ given w → Sound o × (sum (word_of n) (placed o) ≡ w)
-unfolding writtenAt
+pub wrote : (n : ℕ) (o : Operands) (w : ℕ) → written_at n o ≡ given w → Sound o × (sum (word_of n) (placed o) ≡ w)
+unfolding written_at
 wrote n o w e = by (fault o) refl
   where
     by : (b : Bool) → fault o ≡ b → Sound o × (sum (word_of n) (placed o) ≡ w)
     by true f = let e' : refused 5 ≡ given w = rw f at e in absurd (never e')
     by false f = let e' : given (sum (word_of n) (placed o)) ≡ given w = rw f at e in (sound o f, cc e')
 
-pub refuses : (n : ℕ) (x : Operands) (m : ℕ) (b : Bool) → fault x ≡ b → (writtenAt n x ≡ refused m) ↔ ((b ≡ true) × (m ≡ 5))
-unfolding writtenAt
+pub refuses : (n : ℕ) (x : Operands) (m : ℕ) (b : Bool) → fault x ≡ b → (written_at n x ≡ refused m) ↔ ((b ≡ true) × (m ≡ 5))
+unfolding written_at
 refuses n x m true f = (λ e. (refl, let e' : ◌≡◌ {A = Answer ℕ} (refused 5) (refused m) = rw f at e in cc e'), λ p. rw (f, p.1))
 refuses n x m false f = (
   λ e. absurd (let e' : given (sum (word_of n) (placed x)) ≡ refused m = rw f at e in never (sym e')),

@@ -10,8 +10,8 @@ use Rattle.isa.specs.declared.Kind.TheVariants.{Undefined, Binary, Constant, Ld,
 use Rattle.isa.specs.declared.Target.TheVariants.{Relative, Absolute, Displaced}
 use Rattle.forms.specs.declared.Form.{Form}
 use Rattle.forms.specs.Answers.{given}
-use Rattle.forms.specs.Operands.{signed, operandsOf}
-use Rattle.forms.specs.Reading.{formWith, wordToForm}
+use Rattle.forms.specs.Operands.{signed, operands_of}
+use Rattle.forms.specs.Reading.{form_with, word_to_form}
 use Rattle.forms.specs.Theorems.{with_sign, Means, FormMeans}
 use Rattle.forms.proofs.Faults.{never}
 use Rattle.forms.proofs.Displacement.{bits10, bits12}
@@ -28,8 +28,8 @@ module _ (w : ℕ) where
   is : (f g : Form) → given g ≡ given f → Means g w → Means f w
   is f g e m = let p : g ≡ f = cc in subst (λ (x : Form). Means x w) p m
 
-  means : (f : Form) (k : Kind) → kind_of w ≡ k → formWith k (operandsOf w) ≡ given f → Means f w
-  unfolding operandsOf
+  means : (f : Form) (k : Kind) → kind_of w ≡ k → form_with k (operands_of w) ≡ given f → Means f w
+  unfolding operands_of
   means f Undefined q e = absurd (never e)
   means f (Binary op) q e = is f _ e (q, refl, refl, refl)
   means f (Constant op) q e = is f _ e (q, refl, refl)
@@ -49,8 +49,8 @@ module _ (w : ℕ) where
   means f (Call Absolute) q e = is f _ e (q, refl)
   means f (Call Displaced) q e = is f _ e (q, long)
 
-  reads : (f : Form) → Means f w → wordToForm w ≡ given f
-  unfolding wordToForm operandsOf
+  reads : (f : Form) → Means f w → word_to_form w ≡ given f
+  unfolding word_to_form operands_of
   reads (Form.Binary op t a b) m = rw (m.0, m.1, m.2, m.3)
   reads (Form.Constant op t k) m = rw (m.0, m.1, m.2)
   reads (Form.Ld t a b) m = rw (m.0, m.1, m.2, m.3)
@@ -69,6 +69,6 @@ module _ (w : ℕ) where
   reads (Form.JumpDisplaced c d) m = rw m.0 (ap (λ (x : ℤ). given (Form.JumpDisplaced c x)) (short ∙ sym m.1))
   reads (Form.CallDisplaced d) m = rw m.0 (ap (λ (x : ℤ). given (Form.CallDisplaced x)) (long ∙ sym m.1))
 
-pub form-means : FormMeans
-unfolding wordToForm
-form-means w f = (means w f (kind_of w) refl, reads w f)
+pub form_means : FormMeans
+unfolding word_to_form
+form_means w f = (means w f (kind_of w) refl, reads w f)

@@ -2,5 +2,5 @@
 use mathlib.Core.Path.{refl}
 use Rattle.forms.specs.Theorems.{FormsRead}
 
-pub forms-read : FormsRead
-forms-read = (λ form. refl, refl, λ word. refl, refl)
+pub forms_read : FormsRead
+forms_read = (λ form. refl, refl, λ word. refl, refl)

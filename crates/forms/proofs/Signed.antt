@@ -11,20 +11,20 @@ use mir.Val.{SFits, Fits, to_z, of_z}
 use mir.ValLaws.{to_z_pos, to_z-of_z}
 use borrow.Author.Tests.{ltb-true}
 
-pub bits-negative : (d : ℤ) → lt_z d (pos 0) ≡ true → SFits w16 d → (32768 ≤ of_z w16 d) × (of_z w16 d < 65536)
-bits-negative (pos n) e f = absurd (omega (arith, ltb-true n 0 e))
-bits-negative (negsuc n) e f = omega (arith, f.sfits)
+pub bits_negative : (d : ℤ) → lt_z d (pos 0) ≡ true → SFits w16 d → (32768 ≤ of_z w16 d) × (of_z w16 d < 65536)
+bits_negative (pos n) e f = absurd (omega (arith, ltb-true n 0 e))
+bits_negative (negsuc n) e f = omega (arith, f.sfits)
 
 pub bits_positive : (d : ℤ) → lt_z d (pos 0) ≡ false → SFits w16 d → of_z w16 d < 32768
 bits_positive (pos n) e f = f.sfits
 bits_positive (negsuc n) e f = absurd (true≢false e)
 
 -- what a cast of a number that is not negative to its bits asks, and gives
-pub small-casts : (x : ℕ) → x < 32768 → T (non_neg (to_z w16 x)) × Fits w16 (nat_abs (to_z w16 x))
-small-casts x h = rw (to_z_pos w16 x h) (tt, record { fits = omega arith })
+pub small_casts : (x : ℕ) → x < 32768 → T (non_neg (to_z w16 x)) × Fits w16 (nat_abs (to_z w16 x))
+small_casts x h = rw (to_z_pos w16 x h) (tt, record { fits = omega arith })
 
-pub small-bits : (x : ℕ) → x < 32768 → nat_abs (to_z w16 x) ≡ x
-small-bits x h = ap nat_abs (to_z_pos w16 x h)
+pub small_bits : (x : ℕ) → x < 32768 → nat_abs (to_z w16 x) ≡ x
+small_bits x h = ap nat_abs (to_z_pos w16 x h)
 
 -- a signed number that goes through its bits is the same
 pub same : (d : ℤ) → mag d < 32768 → to_z w16 (of_z w16 d) ≡ d

@@ -10,11 +10,11 @@ pub data Answer (A : Type 0) : Type 0 where
   refused : ℕ → Answer A
 
 -- 6 is 'word undefined (word to form only)'
-abbrev pub formAnswer : FormAnswer → Answer Form
-formAnswer (FormAnswer.Read form) = given form
-formAnswer FormAnswer.Undefined = refused 6
+abbrev pub form_answer : FormAnswer → Answer Form
+form_answer (FormAnswer.Read form) = given form
+form_answer FormAnswer.Undefined = refused 6
 
 -- 5 is that of a form with an operand out of range
-abbrev pub wordAnswer : WordAnswer → Answer ℕ
-wordAnswer (WordAnswer.Written word) = given word
-wordAnswer WordAnswer.OutOfRange = refused 5
+abbrev pub word_answer : WordAnswer → Answer ℕ
+word_answer (WordAnswer.Written word) = given word
+word_answer WordAnswer.OutOfRange = refused 5

@@ -12,8 +12,8 @@ use Rattle.forms.specs.Answers.{Answer, given, refused}
 use Rattle.forms.specs.Operands.{fault, placed}
 
 -- the word of the table's entry n with operands in their fields, or number 5
-unfoldable pub writtenAt : ℕ → Operands → Answer ℕ
-writtenAt n x = cond (fault x) (refused 5) (given (sum (word_of n) (placed x)))
+unfoldable pub written_at : ℕ → Operands → Answer ℕ
+written_at n x = cond (fault x) (refused 5) (given (sum (word_of n) (placed x)))
 
 -- an instruction by its place in the table, with operands
 abbrev pub parts : Kind → Operands → Parts
@@ -40,5 +40,5 @@ parts_of (Form.JumpDisplaced condition d10) = parts (Kind.Jump condition Target.
 parts_of (Form.CallDisplaced d12) = parts (Kind.Call Target.Displaced) (0, 0, 0, 0, pos 0, d12)
 
 -- what form to word answers
-unfoldable pub formToWord : Form → Answer ℕ
-formToWord form = writtenAt (parts_of form).0 (parts_of form).1
+unfoldable pub form_to_word : Form → Answer ℕ
+form_to_word form = written_at (parts_of form).0 (parts_of form).1

@@ -1,9 +1,9 @@
 // Instruction words and forms: word to form and form to word, by the table of `table`.
 ghost use Rattle.std.specs.Prelude.{◌≡◌, ◌%◌};
-ghost use Rattle.forms.specs.Answers.{formAnswer, wordAnswer};
-ghost use Rattle.forms.specs.Operands.{signed, unsigned, operandsOf, outside, fault, placed};
-ghost use Rattle.forms.specs.Reading.{formWith, wordToForm};
-ghost use Rattle.forms.specs.Writing.{writtenAt, parts, parts_of, formToWord};
+ghost use Rattle.forms.specs.Answers.{form_answer, word_answer};
+ghost use Rattle.forms.specs.Operands.{signed, unsigned, operands_of, outside, fault, placed};
+ghost use Rattle.forms.specs.Reading.{form_with, word_to_form};
+ghost use Rattle.forms.specs.Writing.{written_at, parts, parts_of, form_to_word};
 ghost use Rattle.isa.specs.declared.Kind.TheVariants.{Jump, Call};
 
 use isa::{BinaryOp, Condition, ConstantOp, Kind, Target, UnaryOp};
@@ -72,7 +72,7 @@ pub fn unsigned_of(d: i16) -> u16
 }
 
 fn operands_of(word: u16) -> Operands
-    ensures { result ≡ operandsOf word }
+    ensures { result ≡ operands_of word }
 {
     let t = isa::field_t(word);
     let a = isa::field_a(word);
@@ -84,7 +84,7 @@ fn operands_of(word: u16) -> Operands
 }
 
 fn jump_form(condition: Condition, target: Target, x: Operands) -> FormAnswer
-    ensures { formAnswer result ≡ formWith (Jump condition target) x }
+    ensures { form_answer result ≡ form_with (Jump condition target) x }
 {
     match target {
         Target::Relative => FormAnswer::Read(Form::JumpRelative {
@@ -103,7 +103,7 @@ fn jump_form(condition: Condition, target: Target, x: Operands) -> FormAnswer
 }
 
 fn call_form(target: Target, x: Operands) -> FormAnswer
-    ensures { formAnswer result ≡ formWith (Call target) x }
+    ensures { form_answer result ≡ form_with (Call target) x }
 {
     match target {
         Target::Relative => FormAnswer::Read(Form::CallRelative { a: x.1 }),
@@ -113,7 +113,7 @@ fn call_form(target: Target, x: Operands) -> FormAnswer
 }
 
 fn form_with(kind: Kind, x: Operands) -> FormAnswer
-    ensures { formAnswer result ≡ formWith kind x }
+    ensures { form_answer result ≡ form_with kind x }
 {
     match kind {
         Kind::Undefined => FormAnswer::Undefined,
@@ -156,7 +156,7 @@ fn form_with(kind: Kind, x: Operands) -> FormAnswer
 
 // Word to form: the form, or number 6.
 pub fn word_to_form(word: u16) -> FormAnswer
-    ensures { formAnswer result ≡ wordToForm word }
+    ensures { form_answer result ≡ word_to_form word }
 {
     form_with(table::kind_of(word), operands_of(word))
 }
@@ -203,7 +203,7 @@ fn placed_of(x: Operands) -> u16
 }
 
 fn write(entry: u8, x: Operands) -> WordAnswer
-    ensures { wordAnswer result ≡ writtenAt entry x }
+    ensures { word_answer result ≡ written_at entry x }
 {
     if has_fault(x) {
         return WordAnswer::OutOfRange;
@@ -256,7 +256,7 @@ pub fn parts_of(form: Form) -> Parts
 
 // Form to word: the word, its unused fields zero, or number 5.
 pub fn form_to_word(form: Form) -> WordAnswer
-    ensures { wordAnswer result ≡ formToWord form }
+    ensures { word_answer result ≡ form_to_word form }
 {
     let parts = parts_of(form);
     let x = parts.1;

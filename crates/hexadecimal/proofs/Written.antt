@@ -7,9 +7,9 @@ use Rattle.hexadecimal.specs.Theorems.{capitals, DigitWritten}
 use Rattle.hexadecimal.proofs.Tables.{at}
 
 -- the digit of a value
-abbrev digitOf : ℕ → ℕ
-digitOf v = cond (ltb v 10) (48 + v) (55 + v)
+abbrev digit_of : ℕ → ℕ
+digit_of v = cond (ltb v 10) (48 + v) (55 + v)
 
-pub digit-written : DigitWritten
+pub digit_written : DigitWritten
 unfolding capitals
-digit-written n = at digitOf capitals tt (n % 16) 0 (omega arith)
+digit_written n = at digit_of capitals tt (n % 16) 0 (omega arith)

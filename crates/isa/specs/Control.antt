@@ -25,26 +25,26 @@ address Absolute pc register displacement = register
 address Displaced pc register displacement = sum pc displacement
 
 -- a jump's displacement is d10, a call's d12
-abbrev pub jumpTarget : Target → ℕ → ℕ → ℕ → ℕ
-jumpTarget target w pc register = address target pc register (d10 w)
+abbrev pub jump_target : Target → ℕ → ℕ → ℕ → ℕ
+jump_target target w pc register = address target pc register (d10 w)
 
-abbrev pub callTarget : Target → ℕ → ℕ → ℕ → ℕ
-callTarget target w pc register = address target pc register (d12 w)
+abbrev pub call_target : Target → ℕ → ℕ → ℕ → ℕ
+call_target target w pc register = address target pc register (d12 w)
 
 -- cycle 2: 'RB takes Rt for ADDI, SUBI, LDL, LDH, PUSH, else Rb', by the fields t and b. HALT and undefined words stop there and
 -- latch nothing: what is said of them is not used
-abbrev pub secondRegister : Kind → ℕ → ℕ → ℕ
-secondRegister Undefined t b = b
-secondRegister (Binary op) t b = b
-secondRegister (Constant op) t b = t
-secondRegister Ld t b = b
-secondRegister St t b = b
-secondRegister (Unary op) t b = b
-secondRegister Nop t b = b
-secondRegister Halt t b = b
-secondRegister Ldsp t b = b
-secondRegister Rts t b = b
-secondRegister Pop t b = b
-secondRegister Push t b = t
-secondRegister (Jump condition target) t b = b
-secondRegister (Call target) t b = b
+abbrev pub second_register : Kind → ℕ → ℕ → ℕ
+second_register Undefined t b = b
+second_register (Binary op) t b = b
+second_register (Constant op) t b = t
+second_register Ld t b = b
+second_register St t b = b
+second_register (Unary op) t b = b
+second_register Nop t b = b
+second_register Halt t b = b
+second_register Ldsp t b = b
+second_register Rts t b = b
+second_register Pop t b = b
+second_register Push t b = t
+second_register (Jump condition target) t b = b
+second_register (Call target) t b = b

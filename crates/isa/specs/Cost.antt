@@ -8,15 +8,15 @@ use Rattle.isa.specs.declared.Kind.{Kind}
 use Rattle.isa.specs.declared.Kind.TheVariants.{Undefined, Binary, Constant, Ld, St, Unary, Nop, Halt, Ldsp, Rts, Pop, Push, Jump, Call}
 
 -- the cycles of each class
-abbrev pub countOf : Class → ℕ
-countOf Stop = 2
-countOf Short = 3
-countOf Full = 4
+abbrev pub count_of : Class → ℕ
+count_of Stop = 2
+count_of Short = 3
+count_of Full = 4
 
 -- of a jump, by whether it is taken
-abbrev pub jumpClass : Bool → Class
-jumpClass true = Full
-jumpClass false = Short
+abbrev pub jump_class : Bool → Class
+jump_class true = Full
+jump_class false = Short
 
 -- HALT and undefined are in the first class, NOP and an untaken jump in the second, all others in the third
 abbrev pub class_of : Kind → Flags → Class
@@ -32,9 +32,9 @@ class_of Ldsp flags = Full
 class_of Rts flags = Full
 class_of Pop flags = Full
 class_of Push flags = Full
-class_of (Jump condition target) flags = jumpClass (taken condition flags)
+class_of (Jump condition target) flags = jump_class (taken condition flags)
 class_of (Call target) flags = Full
 
 -- the cycles of an instruction under these flags
-unfoldable pub costOf : Kind → Flags → ℕ
-costOf kind flags = countOf (class_of kind flags)
+unfoldable pub cost_of : Kind → Flags → ℕ
+cost_of kind flags = count_of (class_of kind flags)

@@ -2,20 +2,20 @@
 use Rattle.std.specs.Prelude.{ℕ, ◌+◌, ◌-◌, ◌*◌, ◌/◌, ◌%◌, cond, ltb}
 
 -- 'o = bits 15-12, t = bits 11-8, a = bits 7-4, b = bits 3-0, k = bits 7-0 without sign'
-abbrev pub fieldO : ℕ → ℕ
-fieldO w = w / 4096
+abbrev pub field_o : ℕ → ℕ
+field_o w = w / 4096
 
-abbrev pub fieldT : ℕ → ℕ
-fieldT w = w / 256 % 16
+abbrev pub field_t : ℕ → ℕ
+field_t w = w / 256 % 16
 
-abbrev pub fieldA : ℕ → ℕ
-fieldA w = w / 16 % 16
+abbrev pub field_a : ℕ → ℕ
+field_a w = w / 16 % 16
 
-abbrev pub fieldB : ℕ → ℕ
-fieldB w = w % 16
+abbrev pub field_b : ℕ → ℕ
+field_b w = w % 16
 
-abbrev pub fieldK : ℕ → ℕ
-fieldK w = w % 256
+abbrev pub field_k : ℕ → ℕ
+field_k w = w % 256
 
 -- bits 11-10, by which E goes on
 abbrev pub bits11to10 : ℕ → ℕ

@@ -1,8 +1,8 @@
 // The instruction set of document 01: kinds, fields, conditions, targets and cycle counts.
 ghost use Rattle.std.specs.Prelude.{◌≡◌};
-ghost use Rattle.isa.specs.Fields.{fieldO, fieldT, fieldA, fieldB, fieldK, d10, d12};
-ghost use Rattle.isa.specs.Control.{taken, address, jumpTarget, callTarget, secondRegister};
-ghost use Rattle.isa.specs.Cost.{countOf, jumpClass, class_of, costOf};
+ghost use Rattle.isa.specs.Fields.{field_o, field_t, field_a, field_b, field_k, d10, d12};
+ghost use Rattle.isa.specs.Control.{taken, address, jump_target, call_target, second_register};
+ghost use Rattle.isa.specs.Cost.{count_of, jump_class, class_of, cost_of};
 
 #[derive(Drop)]
 pub enum BinaryOp {
@@ -87,31 +87,31 @@ pub enum Class {
 pub struct Cycles(pub u32);
 
 pub fn field_o(word: u16) -> u8
-    ensures { result ≡ fieldO word }
+    ensures { result ≡ field_o word }
 {
     (word / 4096) as u8
 }
 
 pub fn field_t(word: u16) -> u8
-    ensures { result ≡ fieldT word }
+    ensures { result ≡ field_t word }
 {
     (word / 256 % 16) as u8
 }
 
 pub fn field_a(word: u16) -> u8
-    ensures { result ≡ fieldA word }
+    ensures { result ≡ field_a word }
 {
     (word / 16 % 16) as u8
 }
 
 pub fn field_b(word: u16) -> u8
-    ensures { result ≡ fieldB word }
+    ensures { result ≡ field_b word }
 {
     (word % 16) as u8
 }
 
 pub fn field_k(word: u16) -> u8
-    ensures { result ≡ fieldK word }
+    ensures { result ≡ field_k word }
 {
     (word % 256) as u8
 }
@@ -157,14 +157,14 @@ fn address_of(target: Target, pc: u16, register: u16, displacement: u16) -> u16
 
 // Where a jump goes: `pc` is one past the instruction, `register` is Ra.
 pub fn jump_target(target: Target, word: u16, pc: u16, register: u16) -> u16
-    ensures { result ≡ jumpTarget target word pc register }
+    ensures { result ≡ jump_target target word pc register }
 {
     address_of(target, pc, register, field_d10(word))
 }
 
 // Where a call goes, likewise.
 pub fn call_target(target: Target, word: u16, pc: u16, register: u16) -> u16
-    ensures { result ≡ callTarget target word pc register }
+    ensures { result ≡ call_target target word pc register }
 {
     address_of(target, pc, register, field_d12(word))
 }
@@ -172,7 +172,7 @@ pub fn call_target(target: Target, word: u16, pc: u16, register: u16) -> u16
 // Which of the fields t and b names the register that cycle 2 latches into RB. HALT and undefined words latch none: there the
 // answer is b, which nothing uses.
 pub fn second_register(kind: Kind, t: u8, b: u8) -> u8
-    ensures { result ≡ secondRegister kind t b }
+    ensures { result ≡ second_register kind t b }
 {
     match kind {
         Kind::Undefined => b,
@@ -196,7 +196,7 @@ pub fn second_register(kind: Kind, t: u8, b: u8) -> u8
 const COUNTS: [u32; 3] = [2, 3, 4];
 
 fn count_of(class: Class) -> u32
-    ensures { result ≡ countOf class }
+    ensures { result ≡ count_of class }
 {
     match class {
         Class::Stop => COUNTS[0],
@@ -206,7 +206,7 @@ fn count_of(class: Class) -> u32
 }
 
 fn jump_class(goes: bool) -> Class
-    ensures { result ≡ jumpClass goes }
+    ensures { result ≡ jump_class goes }
 {
     if goes { Class::Full } else { Class::Short }
 }
@@ -234,7 +234,7 @@ fn class_of(kind: Kind, flags: Flags) -> Class
 
 // The cycles that an instruction takes under these flags.
 pub fn cost(kind: Kind, flags: Flags) -> Cycles
-    ensures { result.0 ≡ costOf kind flags }
+    ensures { result.0 ≡ cost_of kind flags }
 {
     Cycles(count_of(class_of(kind, flags)))
 }

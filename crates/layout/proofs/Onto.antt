@@ -1,4 +1,4 @@
--- Laws of `onto` and `ontoIfRoom`: where the numbers fit and where not, a turn of the loop that writes them, and numbers written in two parts.
+-- Laws of `onto` and `onto_if_room`: where the numbers fit and where not, a turn of the loop that writes them, and numbers written in two parts.
 use mathlib.Core.Path.{◌≡◌, sym, ap, ◌∙◌}
 use mathlib.Core.Bool.{Bool, cond}
 use mathlib.Core.List.{List, [], ◌++◌, append-nil, append_assoc}
@@ -8,12 +8,12 @@ use native.Mathlib.Omega.{arith}
 use borrow.Author.Tests.{le-leb, lt-leb}
 use lib.ListN.{length, take, drop, get_or, set, length-append, length-drop, drop_of_length-le}
 use lib.Seq.{set_at, take_at, drop_at, take-suc, take_all, drop-cons, drop-drop, append_snoc, length-take-le}
-use Rattle.layout.specs.Layout.{onto, ontoIfRoom}
+use Rattle.layout.specs.Layout.{onto, onto_if_room}
 
-pub fitting : (new old : List ℕ) → length new ≤ length old → ontoIfRoom new old ≡ onto new old
+pub fitting : (new old : List ℕ) → length new ≤ length old → onto_if_room new old ≡ onto new old
 fitting new old h = ap (λ (b : Bool). cond b (onto new old) old) (le-leb _ _ h)
 
-pub too_long : (new old : List ℕ) → length old < length new → ontoIfRoom new old ≡ old
+pub too_long : (new old : List ℕ) → length old < length new → onto_if_room new old ≡ old
 too_long new old h = ap (λ (b : Bool). cond b (onto new old) old) (lt-leb _ _ h)
 
 -- the first i numbers written, then one more
@@ -28,31 +28,31 @@ one_more new old i n o =
     ∙ ap (λ (k : ℕ). take k new ++ drop k old) (sym (add-one i))
 
 -- and all of them
-pub all-written : (new old : List ℕ) (i : ℕ) → i ≡ length new → take i new ++ drop i old ≡ onto new old
-all-written new old i e =
+pub all_written : (new old : List ℕ) (i : ℕ) → i ≡ length new → take i new ++ drop i old ≡ onto new old
+all_written new old i e =
     ap (λ (r : List ℕ). r ++ drop i old) (take_all i new (omega (arith, e))) ∙ ap (λ (k : ℕ). new ++ drop k old) e
 
-pub nothing_written : (old : List ℕ) → ontoIfRoom [] old ≡ old
+pub nothing_written : (old : List ℕ) → onto_if_room [] old ≡ old
 nothing_written old = fitting [] old (omega arith)
 
 -- into the part of a list from a place on, which is handed back behind what stands before it
-pub into-part : (new old part : List ℕ) (to : ℕ) → to ≤ length old → part ≡ ontoIfRoom new (take (length old - to) (drop to old))
-    → take to old ++ (part ++ drop (length old - to) (drop to old)) ≡ take to old ++ ontoIfRoom new (drop to old)
-into-part new old part to h e =
+pub into_part : (new old part : List ℕ) (to : ℕ) → to ≤ length old → part ≡ onto_if_room new (take (length old - to) (drop to old))
+    → take to old ++ (part ++ drop (length old - to) (drop to old)) ≡ take to old ++ onto_if_room new (drop to old)
+into_part new old part to h e =
     let size : length (drop to old) ≡ length old - to = length-drop to old in
     let none : drop (length old - to) (drop to old) ≡ [] = drop_of_length-le (drop to old) {i = length old - to} (omega arith) in
     let whole : take (length old - to) (drop to old) ≡ drop to old = take_all (length old - to) (drop to old) (omega arith) in
     ap (λ (r : List ℕ). take to old ++ (part ++ r)) none
-    ∙ ap (λ (r : List ℕ). take to old ++ r) (append-nil part ∙ e ∙ ap (ontoIfRoom new) whole)
+    ∙ ap (λ (r : List ℕ). take to old ++ r) (append-nil part ∙ e ∙ ap (onto_if_room new) whole)
 
 -- first some numbers, then more behind them
-pub in-two-parts : (new more old : List ℕ) (to : ℕ) → to + length new + length more ≤ length old
-    → let next : List ℕ = take to old ++ ontoIfRoom new (drop to old) in
-    take to old ++ ontoIfRoom (new ++ more) (drop to old) ≡ take (to + length new) next ++ ontoIfRoom more (drop (to + length new) next)
-in-two-parts new more old to h =
+pub in_two_parts : (new more old : List ℕ) (to : ℕ) → to + length new + length more ≤ length old
+    → let next : List ℕ = take to old ++ onto_if_room new (drop to old) in
+    take to old ++ onto_if_room (new ++ more) (drop to old) ≡ take (to + length new) next ++ onto_if_room more (drop (to + length new) next)
+in_two_parts new more old to h =
     let d = drop to old in
     let rest = drop (length new) d in
-    let next = take to old ++ ontoIfRoom new d in
+    let next = take to old ++ onto_if_room new d in
     let size : length d ≡ length old - to = length-drop to old in
     let left : length rest ≡ length d - length new = length-drop (length new) d in
     let both : length (new ++ more) ≡ length new + length more = length-append new more in
@@ -64,11 +64,11 @@ in-two-parts new more old to h =
     let behind = ap (drop (to + length new)) parts ∙ drop_at (take to old ++ new) rest (to + length new) front in
     let dropped : drop (length more) rest ≡ drop (length (new ++ more)) d =
     drop-drop (length more) (length new) d ∙ ap (λ (n : ℕ). drop n d) (sym both) in
-    let first : take to old ++ ontoIfRoom (new ++ more) d ≡ take to old ++ (new ++ (more ++ drop (length more) rest)) =
+    let first : take to old ++ onto_if_room (new ++ more) d ≡ take to old ++ (new ++ (more ++ drop (length more) rest)) =
     ap (λ (r : List ℕ). take to old ++ r)
     (fitting (new ++ more) d (omega arith)
     ∙ append_assoc new more (drop (length (new ++ more)) d)
     ∙ ap (λ (r : List ℕ). new ++ (more ++ r)) (sym dropped)) in
-    let second : (take to old ++ new) ++ ontoIfRoom more rest ≡ take to old ++ (new ++ (more ++ drop (length more) rest)) =
+    let second : (take to old ++ new) ++ onto_if_room more rest ≡ take to old ++ (new ++ (more ++ drop (length more) rest)) =
     ap (λ (r : List ℕ). (take to old ++ new) ++ r) (fitting more rest (omega arith)) ∙ append_assoc (take to old) new _ in
-    first ∙ sym second ∙ sym (λ j. before j ++ ontoIfRoom more (behind j))
+    first ∙ sym second ∙ sym (λ j. before j ++ onto_if_room more (behind j))

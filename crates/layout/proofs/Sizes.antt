@@ -3,18 +3,18 @@ use mathlib.Core.Path.{◌≡◌, refl}
 use Prim.Native.Nat.{ℕ}
 use lib.ListN.{length}
 use Rattle.r8_core.specs.Cores.{Visible}
-use Rattle.r8_core.specs.Calls.{Answer, done, stored, ran, viewed, refused, refusedAt}
-use Rattle.layout.specs.Layout.{answerSize, answerNumbers, leftNumbers}
+use Rattle.r8_core.specs.Calls.{Answer, done, stored, ran, viewed, refused, refused_at}
+use Rattle.layout.specs.Layout.{answer_size, answer_numbers, left_numbers}
 
-pub numbers-size : (a : Answer) → length (answerNumbers a) ≡ answerSize
-unfolding answerNumbers
-numbers-size done = refl
-numbers-size (stored count) = refl
-numbers-size (ran cycles instructions end) = refl
-numbers-size (viewed v due clock) = refl
-numbers-size (refused number) = refl
-numbers-size (refusedAt number offset) = refl
+pub numbers_size : (a : Answer) → length (answer_numbers a) ≡ answer_size
+unfolding answer_numbers
+numbers_size done = refl
+numbers_size (stored count) = refl
+numbers_size (ran cycles instructions end) = refl
+numbers_size (viewed v due clock) = refl
+numbers_size (refused number) = refl
+numbers_size (refused_at number offset) = refl
 
-pub left-size : (v : Visible) (spent clock : ℕ) → length (leftNumbers v spent clock) ≡ answerSize
-unfolding leftNumbers
-left-size v spent clock = refl
+pub left_size : (v : Visible) (spent clock : ℕ) → length (left_numbers v spent clock) ≡ answer_size
+unfolding left_numbers
+left_size v spent clock = refl

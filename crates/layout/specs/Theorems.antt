@@ -1,16 +1,16 @@
 -- Answers, and what a list of calls left, as numbers: four statements, proved in proofs/Theorems.antt.
 use Rattle.std.specs.Prelude.{◌≡◌, ℕ, List, [], ◌∷◌, ◌++◌, length, get_or, take, drop, replicate}
 use Rattle.r8_core.specs.Cores.{Visible}
-use Rattle.r8_core.specs.Calls.{Answer, done, stored, ran, viewed, refused, refusedAt}
+use Rattle.r8_core.specs.Calls.{Answer, done, stored, ran, viewed, refused, refused_at}
 use Rattle.r8_core.specs.declared.End.{End}
-use Rattle.text.specs.Text.{letterText}
-use Rattle.layout.specs.Layout.{answerSize, flagsNumber, stopNumber, answerNumbers, leftNumbers}
+use Rattle.text.specs.Text.{letter_text}
+use Rattle.layout.specs.Layout.{answer_size, flags_number, stop_number, answer_numbers, left_numbers}
 
--- every answer has 23 numbers, and so has what a list left (proved as `answer-size`)
+-- every answer has 23 numbers, and so has what a list left (proved as `answer_size_lem`)
 abbrev pub AnswerSize : Type 0
 AnswerSize =
-    ((a : Answer) → length (answerNumbers a) ≡ answerSize)
-    × ((v : Visible) (spent clock : ℕ) → length (leftNumbers v spent clock) ≡ answerSize)
+    ((a : Answer) → length (answer_numbers a) ≡ answer_size)
+    × ((v : Visible) (spent clock : ℕ) → length (left_numbers v spent clock) ≡ answer_size)
 
 -- an answer as a core gives it: a view has sixteen registers
 abbrev pub Whole : Answer → Type 0
@@ -19,18 +19,18 @@ Whole (stored count) = Unit
 Whole (ran cycles instructions end) = Unit
 Whole (viewed v due clock) = length v.regs ≡ 16
 Whole (refused number) = Unit
-Whole (refusedAt number offset) = Unit
+Whole (refused_at number offset) = Unit
 
--- different answers have different numbers (proved as `answers-apart`)
+-- different answers have different numbers (proved as `answers_apart`)
 abbrev pub AnswersApart : Type 0
-AnswersApart = (a b : Answer) → Whole a → Whole b → answerNumbers a ≡ answerNumbers b → a ≡ b
+AnswersApart = (a b : Answer) → Whole a → Whole b → answer_numbers a ≡ answer_numbers b → a ≡ b
 
 -- what is left is told by its numbers: the same numbers, the same clock, cycles spent and stop state and, where none are spent, the same R0
--- to R15, PC, SP and flags (proved as `left-apart`)
+-- to R15, PC, SP and flags (proved as `left_apart`)
 abbrev pub LeftApart : Type 0
 LeftApart =
     (v w : Visible) (s t clock other : ℕ) → length v.regs ≡ 16 → length w.regs ≡ 16
-    → leftNumbers v s clock ≡ leftNumbers w t other
+    → left_numbers v s clock ≡ left_numbers w t other
     → (clock ≡ other) × (s ≡ t) × (v.stop ≡ w.stop) × (s ≡ 0 → v ≡ w)
 
 -- where each number of what is seen stands: the case, R0 to R15, PC, SP, flags, stop state, the cycle due or the cycles spent, the clock
@@ -40,8 +40,8 @@ SeenAt kind v cycle clock l =
     × (take 16 (drop 1 l) ≡ v.regs)
     × (get_or l 17 0 ≡ v.pc)
     × (get_or l 18 0 ≡ v.sp)
-    × (get_or l 19 0 ≡ flagsNumber v.flags)
-    × (get_or l 20 0 ≡ stopNumber v.stop)
+    × (get_or l 19 0 ≡ flags_number v.flags)
+    × (get_or l 20 0 ≡ stop_number v.stop)
     × (get_or l 21 0 ≡ cycle)
     × (get_or l 22 0 ≡ clock)
 
@@ -50,12 +50,12 @@ SeenAt kind v cycle clock l =
 abbrev pub Places : Type 0
 Places =
     (a b : ℕ) (end : End) (v : Visible) (cycle clock : ℕ) → length v.regs ≡ 16
-    → (answerNumbers done ≡ 0 ∷ replicate 22 0)
-    × (answerNumbers (stored a) ≡ 1 ∷ a ∷ replicate 21 0)
-    × (answerNumbers (ran a b end) ≡ 2 ∷ a ∷ b ∷ letterText end ∷ replicate 19 0)
-    × SeenAt 3 v cycle clock (answerNumbers (viewed v cycle clock))
-    × (answerNumbers (refused a) ≡ 4 ∷ a ∷ replicate 21 0)
-    × (answerNumbers (refusedAt a b) ≡ 5 ∷ a ∷ b ∷ replicate 20 0)
-    × SeenAt 6 v 0 clock (leftNumbers v 0 clock)
+    → (answer_numbers done ≡ 0 ∷ replicate 22 0)
+    × (answer_numbers (stored a) ≡ 1 ∷ a ∷ replicate 21 0)
+    × (answer_numbers (ran a b end) ≡ 2 ∷ a ∷ b ∷ letter_text end ∷ replicate 19 0)
+    × SeenAt 3 v cycle clock (answer_numbers (viewed v cycle clock))
+    × (answer_numbers (refused a) ≡ 4 ∷ a ∷ replicate 21 0)
+    × (answer_numbers (refused_at a b) ≡ 5 ∷ a ∷ b ∷ replicate 20 0)
+    × SeenAt 6 v 0 clock (left_numbers v 0 clock)
     × ((spent : ℕ) → (spent ≡ 0 → ⊥)
-    → leftNumbers v spent clock ≡ 6 ∷ (replicate 19 0 ++ (stopNumber v.stop ∷ spent ∷ clock ∷ [])))
+    → left_numbers v spent clock ≡ 6 ∷ (replicate 19 0 ++ (stop_number v.stop ∷ spent ∷ clock ∷ [])))

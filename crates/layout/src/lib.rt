@@ -2,11 +2,11 @@
 ghost use Rattle.std.specs.Prelude.{◌≡◌, List, [], ◌∷◌, ℕ, ◌≤◌};
 ghost use Rattle.words.specs.Arithmetic.{bit};
 ghost use Rattle.r8_core.specs.Calls.{done, refused, reset, load, run, step, view};
-ghost use Rattle.refusals.specs.Refusals.{refusalNumber};
-ghost use Rattle.r8_core.specs.Cores.{visible, visibleOf};
-ghost use Rattle.r8_core.specs.Spent.{spentOf};
-ghost use Rattle.r8_core.specs.Answers.{loadAnswerOf, runAnswerOf, viewAnswerOf};
-ghost use Rattle.layout.specs.Layout.{padded, flagsNumber, isOdd, flags_of, stopNumber, seenNumbers, answerNumbers, leftNumbers, ontoIfRoom, numbered, gave};
+ghost use Rattle.refusals.specs.Refusals.{refusal_number};
+ghost use Rattle.r8_core.specs.Cores.{visible, visible_of};
+ghost use Rattle.r8_core.specs.Spent.{spent_of};
+ghost use Rattle.r8_core.specs.Answers.{load_answer_of, run_answer_of, view_answer_of};
+ghost use Rattle.layout.specs.Layout.{padded, flags_number, is_odd, flags_of, stop_number, seen_numbers, answer_numbers, left_numbers, onto_if_room, numbered, gave};
 
 use effects::Stop;
 use isa::Flags;
@@ -35,13 +35,13 @@ fn bit_of(set: bool) -> u64
 
 // 8N+4Z+2C+V.
 pub fn flags_number(flags: Flags) -> u64
-    ensures { result ≡ flagsNumber flags }
+    ensures { result ≡ flags_number flags }
 {
     8 * bit_of(flags.n) + 4 * bit_of(flags.z) + 2 * bit_of(flags.c) + bit_of(flags.v)
 }
 
 fn is_odd(n: u64) -> bool
-    ensures { result ≡ isOdd n }
+    ensures { result ≡ is_odd n }
 {
     n % 2 == 1
 }
@@ -59,7 +59,7 @@ pub fn flags_of(number: u64) -> Flags
 }
 
 pub fn stop_number(stop: Stop) -> u64
-    ensures { result ≡ stopNumber stop }
+    ensures { result ≡ stop_number stop }
 {
     match stop {
         Stop::Going => 0,
@@ -79,19 +79,19 @@ fn four(a: u64, b: u64, c: u64, d: u64) -> [u64; 23]
 
 // What a reset answers.
 pub fn done_numbers() -> [u64; 23]
-    ensures { result ≡ answerNumbers done }
+    ensures { result ≡ answer_numbers done }
 {
     four(0, 0, 0, 0)
 }
 
 fn refused_numbers(why: Refusal) -> [u64; 23]
-    ensures { result ≡ answerNumbers (refused (refusalNumber why)) }
+    ensures { result ≡ answer_numbers (refused (refusal_number why)) }
 {
     four(4, refusals::number(why) as u64, 0, 0)
 }
 
 pub fn load_numbers(answer: LoadAnswer) -> [u64; 23]
-    ensures { result ≡ answerNumbers (loadAnswerOf answer) }
+    ensures { result ≡ answer_numbers (load_answer_of answer) }
 {
     match answer {
         LoadAnswer::Stored(count) => four(1, count as u64, 0, 0),
@@ -107,7 +107,7 @@ pub fn load_numbers(answer: LoadAnswer) -> [u64; 23]
 
 // What a run or a step answers.
 pub fn run_numbers(answer: RunAnswer) -> [u64; 23]
-    ensures { result ≡ answerNumbers (runAnswerOf answer) }
+    ensures { result ≡ answer_numbers (run_answer_of answer) }
 {
     match answer {
         RunAnswer::Ran {
@@ -137,7 +137,7 @@ fn widened(regs: [u16; 16]) -> [u64; 16]
 
 // What is seen of a core, with the case; `due` is the cycle due, or the cycles spent.
 fn seen_numbers(kind: u64, s: Snapshot) -> [u64; 23]
-    ensures { result ≡ seenNumbers kind (visible s.regs s.pc s.sp s.flags s.stop) s.due s.clock.0 }
+    ensures { result ≡ seen_numbers kind (visible s.regs s.pc s.sp s.flags s.stop) s.due s.clock.0 }
 {
     let regs = s.regs;
     let flags = s.flags;
@@ -172,7 +172,7 @@ fn seen_numbers(kind: u64, s: Snapshot) -> [u64; 23]
 }
 
 pub fn view_numbers(answer: ViewAnswer, snapshot: Snapshot) -> [u64; 23]
-    ensures { result ≡ answerNumbers (viewAnswerOf answer snapshot) }
+    ensures { result ≡ answer_numbers (view_answer_of answer snapshot) }
 {
     match answer {
         ViewAnswer::Viewed => seen_numbers(3, snapshot),
@@ -182,7 +182,7 @@ pub fn view_numbers(answer: ViewAnswer, snapshot: Snapshot) -> [u64; 23]
 
 // What a list of calls left of a core: of the registers and flags, where an instruction is unfinished, those of a fresh one.
 pub fn left_numbers(core: Core) -> [u64; 23]
-    ensures { result ≡ leftNumbers (visibleOf core) (spentOf core) core.clock.0 }
+    ensures { result ≡ left_numbers (visible_of core) (spent_of core) core.clock.0 }
 {
     let stop = core.stop;
     let clock = core.clock;
@@ -206,7 +206,7 @@ pub fn left_numbers(core: Core) -> [u64; 23]
 
 // Writes an answer's numbers to the front of a slice; one that is too short stays as it is.
 pub fn put(answers: &mut [u64], numbers: [u64; 23])
-    ensures { answers.new ≡ ontoIfRoom numbers answers.old }
+    ensures { answers.new ≡ onto_if_room numbers answers.old }
 {
     if answers.len() < 23 {
         return;

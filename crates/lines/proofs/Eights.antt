@@ -11,11 +11,11 @@ use lib.Seq.{drop-cons}
 use Rattle.lines.specs.Lines.{find}
 
 -- bytes that are passed
-pub find-over : (b n : ℕ) (s : List ℕ) → n ≤ find b s → find b s ≡ n + find b (drop n s)
+pub find_over : (b n : ℕ) (s : List ℕ) → n ≤ find b s → find b s ≡ n + find b (drop n s)
 unfolding find
-find-over b zero s h = omega arith
-find-over b (suc n) [] h = absurd (omega arith)
-find-over b (suc n) (x ∷ s) h = by (eqb x b) (find-over b n s) h where
+find_over b zero s h = omega arith
+find_over b (suc n) [] h = absurd (omega arith)
+find_over b (suc n) (x ∷ s) h = by (eqb x b) (find_over b n s) h where
   by : (v : Bool) → (n ≤ find b s → find b s ≡ n + find b (drop n s)) → suc n ≤ cond v 0 (suc (find b s)) → cond v 0 (suc (find b s)) ≡ suc n + find b (drop n s)
   by true ih l = absurd (omega arith)
   by false ih l = omega (arith, ih (omega arith))

@@ -8,31 +8,31 @@ use native.Mathlib.Omega.{arith}
 use lib.Dec.{eqb}
 use lib.ListN.{length, take, drop, length-drop}
 use lib.Seq.{drop-drop}
-use Rattle.lines.specs.Lines.{lineFeed, prepend, lines, find, firstLine}
-use Rattle.lines.proofs.Places.{find-le, first-length}
+use Rattle.lines.specs.Lines.{line_feed, prepend, lines, find, first_line}
+use Rattle.lines.proofs.Places.{find_le, first_length}
 
 -- a byte more before the lines: an LF ends an empty line, any other byte is the first line's
-module _ (b : ℕ) (t : List ℕ) (ih : prepend b (lines t) ≡ (b ∷ firstLine t) ∷ lines (drop (suc (find lineFeed t)) t)) where
+module _ (b : ℕ) (t : List ℕ) (ih : prepend b (lines t) ≡ (b ∷ first_line t) ∷ lines (drop (suc (find line_feed t)) t)) where
   one_more : (x : Bool) → cond x ([] ∷ lines t) (prepend b (lines t))
-      ≡ take (cond x 0 (suc (find lineFeed t))) (b ∷ t) ∷ lines (drop (cond x 0 (suc (find lineFeed t))) t)
+      ≡ take (cond x 0 (suc (find line_feed t))) (b ∷ t) ∷ lines (drop (cond x 0 (suc (find line_feed t))) t)
   one_more true = refl
   one_more false = ih
 
-split : (b : ℕ) (t : List ℕ) → lines (b ∷ t) ≡ firstLine (b ∷ t) ∷ lines (drop (suc (find lineFeed (b ∷ t))) (b ∷ t))
+split : (b : ℕ) (t : List ℕ) → lines (b ∷ t) ≡ first_line (b ∷ t) ∷ lines (drop (suc (find line_feed (b ∷ t))) (b ∷ t))
 unfolding lines find
-split b [] = one_more b [] refl (eqb b lineFeed)
-split b (c ∷ t) = one_more b (c ∷ t) (ap (prepend b) (split c t)) (eqb b lineFeed)
+split b [] = one_more b [] refl (eqb b line_feed)
+split b (c ∷ t) = one_more b (c ∷ t) (ap (prepend b) (split c t)) (eqb b line_feed)
 
-pub front : (t : List ℕ) → 0 < length t → lines t ≡ firstLine t ∷ lines (drop (length (firstLine t) + 1) t)
+pub front : (t : List ℕ) → 0 < length t → lines t ≡ first_line t ∷ lines (drop (length (first_line t) + 1) t)
 front [] h = absurd (omega arith)
-front (b ∷ t) h = rw (first-length (b ∷ t), add-one) (split b t)
+front (b ∷ t) h = rw (first_length (b ∷ t), add-one) (split b t)
 
 -- the same at a place of a listing, and the place of the next line
 pub front_at : (s : List ℕ) (at : ℕ) → at < length s
-    → lines (drop at s) ≡ firstLine (drop at s) ∷ lines (drop (at + (length (firstLine (drop at s)) + 1)) s)
+    → lines (drop at s) ≡ first_line (drop at s) ∷ lines (drop (at + (length (first_line (drop at s)) + 1)) s)
 front_at s at h =
     front (drop at s) (omega (arith, length-drop at s))
-    ∙ ap (λ (t : List ℕ). firstLine (drop at s) ∷ lines t) (drop-drop (length (firstLine (drop at s)) + 1) at s)
+    ∙ ap (λ (t : List ℕ). first_line (drop at s) ∷ lines t) (drop-drop (length (first_line (drop at s)) + 1) at s)
 
-pub first-in : (s : List ℕ) (at : ℕ) → length (firstLine (drop at s)) ≤ length s - at
-first-in s at = omega (arith, first-length (drop at s), find-le lineFeed (drop at s), length-drop at s)
+pub first_in : (s : List ℕ) (at : ℕ) → length (first_line (drop at s)) ≤ length s - at
+first_in s at = omega (arith, first_length (drop at s), find_le line_feed (drop at s), length-drop at s)

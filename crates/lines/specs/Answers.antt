@@ -1,6 +1,6 @@
 -- Document 01, 'Listing' and 'Numbers from the input': what the line reader answers, by number and values for each case.
 use Rattle.std.specs.Prelude.{List, ℕ}
-use Rattle.lines.specs.Lines.{readLine}
+use Rattle.lines.specs.Lines.{read_line}
 use Rattle.lines.specs.declared.Line.{Line}
 use Rattle.lines.specs.declared.Line.TheVariants.{Blank, Entry, IllFormed}
 
@@ -11,11 +11,11 @@ pub data Said : Type 0 where
   refused : ℕ → Said
 
 -- '2: line ill-formed'
-abbrev pub lineSays : Line → Said
-lineSays Blank = skipped
-lineSays (Entry address word) = entry address word
-lineSays IllFormed = refused 2
+abbrev pub line_says : Line → Said
+line_says Blank = skipped
+line_says (Entry address word) = entry address word
+line_says IllFormed = refused 2
 
 -- what a line's bytes say
-abbrev pub saidBy : List ℕ → Said
-saidBy line = lineSays (readLine line)
+abbrev pub said_by : List ℕ → Said
+said_by line = line_says (read_line line)

@@ -1,10 +1,10 @@
 // The line reader of a listing, and the comment call. A line is four hexadecimal digits (an address), one space, four digits (a word),
 // spaces or none, then nothing or `;` and a comment; or it is spaces or none, and says nothing. An LF or the end of the listing ends it.
 ghost use Rattle.std.specs.Prelude.{◌≡◌, ◌+◌, ◌≤◌, min, length, drop};
-ghost use Rattle.hexadecimal.specs.Digits.{digitValue};
-ghost use Rattle.lines.specs.Lines.{firstLine, afterSpaces, ends, fourDigits, number_at, readLine};
-ghost use Rattle.lines.specs.Answers.{lineSays, saidBy};
-ghost use Rattle.lines.specs.Comment.{commentText, commentStart};
+ghost use Rattle.hexadecimal.specs.Digits.{digit_value};
+ghost use Rattle.lines.specs.Lines.{first_line, after_spaces, ends, four_digits, number_at, read_line};
+ghost use Rattle.lines.specs.Answers.{line_says, said_by};
+ghost use Rattle.lines.specs.Comment.{comment_text, comment_start};
 
 mod search; // the place of a byte
 
@@ -32,7 +32,7 @@ pub struct Read {
 
 // The value of a hexadecimal digit, in either case; 16 for a byte that is no digit.
 fn digit(b: u8) -> u8
-    ensures { result ≡ digitValue b }
+    ensures { result ≡ digit_value b }
 {
     let mut value = 16;
     if b'0' <= b && b <= b'9' {
@@ -50,7 +50,7 @@ fn digit(b: u8) -> u8
 // The number that four digits write, given their values, the first the highest; 65,536, which is above every word, where one of the values
 // is no digit's.
 fn number(a: u8, b: u8, c: u8, d: u8) -> u32
-    ensures { result ≡ fourDigits a b c d }
+    ensures { result ≡ four_digits a b c d }
 {
     if 16 <= a || 16 <= b || 16 <= c || 16 <= d {
         return 65536;
@@ -60,7 +60,7 @@ fn number(a: u8, b: u8, c: u8, d: u8) -> u32
 
 // What follows the spaces at the front.
 fn after_spaces(s: &[u8]) -> &[u8]
-    ensures { result.now ≡ afterSpaces s.now }
+    ensures { result.now ≡ after_spaces s.now }
 {
     let mut i = 0;
     while i < s.len() && s[i] == SPACE {
@@ -105,7 +105,7 @@ fn word_of(text: &[u8]) -> u32
 
 // What a line says, given without its LF.
 fn line_of(text: &[u8]) -> Line
-    ensures { result ≡ readLine text.now }
+    ensures { result ≡ read_line text.now }
 {
     if after_spaces(text).len() == 0 {
         return Line::Blank;
@@ -126,14 +126,14 @@ fn line_of(text: &[u8]) -> Line
 
 // How many bytes the line at the front has, the LF not counted.
 pub fn line_length(rest: &[u8]) -> usize
-    ensures { result ≡ length (firstLine rest.now) }
+    ensures { result ≡ length (first_line rest.now) }
 {
     search::place_of(rest, LINE_FEED)
 }
 
 // The line at the front, without the LF.
 fn first_line(s: &[u8]) -> &[u8]
-    ensures text { result.now ≡ firstLine s.now }
+    ensures text { result.now ≡ first_line s.now }
     ensures place { result.ref_ptr ≡ s.entry.ref_ptr }
 {
     let n = line_length(s);
@@ -142,8 +142,8 @@ fn first_line(s: &[u8]) -> &[u8]
 
 // The line reader: given the rest of a listing, it reads the line at the front. Where nothing is left, that is blank and has no byte.
 pub fn read_line(rest: &[u8]) -> Read
-    ensures line { lineSays result.line ≡ saidBy (firstLine rest.now) }
-    ensures length { result.length ≡ length (firstLine rest.now) }
+    ensures line { line_says result.line ≡ said_by (first_line rest.now) }
+    ensures length { result.length ≡ length (first_line rest.now) }
 {
     let text = first_line(rest);
     Read {
@@ -176,8 +176,8 @@ fn part_from(s: &[u8], i: usize) -> &[u8]
 // The comment call: the part of the listing after the first `;` from the offset to the line's end, without the LF; an empty part
 // where there is none, or the offset is past the end.
 pub fn comment(listing: &[u8], offset: usize) -> &[u8]
-    ensures text { result.now ≡ commentText listing.now offset }
-    ensures place { (result.ref_ptr.0 ≡ listing.entry.ref_ptr.0) × (result.ref_ptr.1 ≡ listing.entry.ref_ptr.1 + commentStart listing.now offset) }
+    ensures text { result.now ≡ comment_text listing.now offset }
+    ensures place { (result.ref_ptr.0 ≡ listing.entry.ref_ptr.0) × (result.ref_ptr.1 ≡ listing.entry.ref_ptr.1 + comment_start listing.now offset) }
 {
     let line = first_line(part_from(listing, offset));
     let i = search::place_of(line, SEMICOLON);

@@ -11,11 +11,11 @@ pub data Answer : Type 0 where
   refused : ℕ → ℕ → Answer
 
 -- '2: line ill-formed. 3: address not above the one before. 4: address at or past L'
-abbrev pub faultNumber : Fault → ℕ
-faultNumber IllFormed = 2
-faultNumber NotAbove = 3
-faultNumber PastEnd = 4
+abbrev pub fault_number : Fault → ℕ
+fault_number IllFormed = 2
+fault_number NotAbove = 3
+fault_number PastEnd = 4
 
-abbrev pub storeAnswer : StoreAnswer → Answer
-storeAnswer (Stored count) = stored count
-storeAnswer (Refused fault offset) = refused (faultNumber fault) offset
+abbrev pub store_answer : StoreAnswer → Answer
+store_answer (Stored count) = stored count
+store_answer (Refused fault offset) = refused (fault_number fault) offset

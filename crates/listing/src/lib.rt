@@ -1,9 +1,9 @@
 // A listing checked, and stored into a lent memory: all lines are checked before a word is written.
 ghost use Rattle.std.specs.Prelude.{◌≡◌, length};
 ghost use Rattle.lines.specs.Lines.{lines};
-ghost use Rattle.listing.specs.Answers.{faultNumber, storeAnswer};
-ghost use Rattle.listing.specs.Verdicts.{verdictNumber};
-ghost use Rattle.listing.specs.Listing.{lowestAfter, addressFault, faultOf, words_of, storeLine, storeLines, listingAnswer, listingMemory};
+ghost use Rattle.listing.specs.Answers.{fault_number, store_answer};
+ghost use Rattle.listing.specs.Verdicts.{verdict_number};
+ghost use Rattle.listing.specs.Listing.{lowest_after, address_fault, fault_of, words_of, store_line, store_lines, listing_answer, listing_memory};
 
 use lines::Line;
 
@@ -30,7 +30,7 @@ pub enum StoreAnswer {
 
 // The numbers of document 01.
 pub fn fault_number(fault: Fault) -> u8
-    ensures { result ≡ faultNumber fault }
+    ensures { result ≡ fault_number fault }
 {
     match fault {
         Fault::IllFormed => 2,
@@ -40,7 +40,7 @@ pub fn fault_number(fault: Fault) -> u8
 }
 
 fn judge_address(limit: usize, lowest: u32, address: u16) -> Verdict
-    ensures { verdictNumber result ≡ addressFault limit lowest address }
+    ensures { verdict_number result ≡ address_fault limit lowest address }
 {
     if limit <= address as usize {
         return Verdict::Failed(Fault::PastEnd);
@@ -52,7 +52,7 @@ fn judge_address(limit: usize, lowest: u32, address: u16) -> Verdict
 }
 
 fn judge(limit: usize, lowest: u32, line: Line) -> Verdict
-    ensures { verdictNumber result ≡ faultOf limit lowest line }
+    ensures { verdict_number result ≡ fault_of limit lowest line }
 {
     match line {
         Line::Blank => Verdict::Passed,
@@ -62,7 +62,7 @@ fn judge(limit: usize, lowest: u32, line: Line) -> Verdict
 }
 
 fn lowest_after(line: Line, lowest: u32) -> u32
-    ensures { result ≡ lowestAfter line lowest }
+    ensures { result ≡ lowest_after line lowest }
 {
     match line {
         Line::Blank => lowest,
@@ -86,7 +86,7 @@ fn words_of(line: Line) -> usize
 
 // What a store of the listing answers, with nothing stored yet.
 fn check(listing: &[u8], limit: usize) -> StoreAnswer
-    ensures { storeAnswer result ≡ listingAnswer listing.now limit }
+    ensures { store_answer result ≡ listing_answer listing.now limit }
 {
     let mut at = 0;
     let mut lowest: u32 = 0;
@@ -106,7 +106,7 @@ fn check(listing: &[u8], limit: usize) -> StoreAnswer
 }
 
 fn store_line(line: Line, memory: &mut [u16])
-    ensures { memory.new ≡ storeLine line memory.old }
+    ensures { memory.new ≡ store_line line memory.old }
 {
     match line {
         Line::Blank => {}
@@ -117,7 +117,7 @@ fn store_line(line: Line, memory: &mut [u16])
 
 // The lines are stored with no further look at what is wrong with one: an ill-formed line says nothing, and is passed over.
 fn store_lines(listing: &[u8], memory: &mut [u16])
-    ensures { memory.new ≡ storeLines (lines listing.now) memory.old }
+    ensures { memory.new ≡ store_lines (lines listing.now) memory.old }
 {
     let mut at = 0;
     while at < listing.len() {
@@ -131,8 +131,8 @@ fn store_lines(listing: &[u8], memory: &mut [u16])
 // The checked store: a listing with a fault changes nothing. Every length of memory is taken as it is, 0 and above 65,536 too,
 // which number 1 is for.
 pub fn store(listing: &[u8], memory: &mut [u16]) -> StoreAnswer
-    ensures answer { storeAnswer result ≡ listingAnswer listing.now (length memory.old) }
-    ensures memory { memory.new ≡ listingMemory listing.now memory.old }
+    ensures answer { store_answer result ≡ listing_answer listing.now (length memory.old) }
+    ensures memory { memory.new ≡ listing_memory listing.now memory.old }
 {
     let answer = check(listing, memory.len());
     match answer {

@@ -3,31 +3,31 @@ use mathlib.Core.Path.{◌≡◌, sym, ap, subst}
 use mathlib.Core.List.{List, map}
 use Rattle.r8_core.specs.Calls.{Answer}
 use Rattle.plays.specs.Plays.{play}
-use Rattle.plays.proofs.Plays.{each-then, plays-same}
-use Rattle.machine.specs.Machine.{freshMachine}
-use Rattle.machine.specs.Theorem.{Call, reset, load, run, step, view, State, freshState, handed, onCore, onMachine, Agree, Given, Made, handedBack, asMade, Kept, EveryListMade, ContractsKept, NothingAsked}
-use Rattle.machine.proofs.Theorem.{every-list}
+use Rattle.plays.proofs.Plays.{each_then, plays_same}
+use Rattle.machine.specs.Machine.{fresh_machine}
+use Rattle.machine.specs.Theorem.{Call, reset, load, run, step, view, State, fresh_state, handed, on_core, on_machine, Agree, Given, Made, handed_back, as_made, Kept, EveryListMade, ContractsKept, NothingAsked}
+use Rattle.machine.proofs.Theorem.{every_list}
 
 -- where the equation holds, the call does what its definition says
-as-defined : (call : Call) (given : Given call) (s : State) → Kept call given s.core s.memory
-    → handedBack call given s.memory ≡ onCore call s
-as-defined reset given s e = ap handed e
-as-defined (load text) given s e = ap handed e
-as-defined (run b) given s e = ap handed e
-as-defined step given s e = ap handed e
-as-defined view given s e = ap handed e
+as_defined : (call : Call) (given : Given call) (s : State) → Kept call given s.core s.memory
+    → handed_back call given s.memory ≡ on_core call s
+as_defined reset given s e = ap handed e
+as_defined (load text) given s e = ap handed e
+as_defined (run b) given s e = ap handed e
+as_defined step given s e = ap handed e
+as_defined view given s e = ap handed e
 
-pub every-list-made : EveryListMade
-every-list-made memory calls kept =
-    let s = freshState memory in
-    let same = plays-same Made Call State Answer asMade onCore (λ m. m.call) calls s
-    (each-then asMade (λ m s. Kept m.call m.given s.core s.memory) _ (λ m s. as-defined m.call m.given s) calls s kept) in
-    subst (λ (p : List Answer × State). Agree p (play onMachine (map (λ m. m.call) calls) (freshMachine memory))) (sym same)
-    (every-list memory (map (λ m. m.call) calls))
+pub every_list_made : EveryListMade
+every_list_made memory calls kept =
+    let s = fresh_state memory in
+    let same = plays_same Made Call State Answer as_made on_core (λ m. m.call) calls s
+    (each_then as_made (λ m s. Kept m.call m.given s.core s.memory) _ (λ m s. as_defined m.call m.given s) calls s kept) in
+    subst (λ (p : List Answer × State). Agree p (play on_machine (map (λ m. m.call) calls) (fresh_machine memory))) (sym same)
+    (every_list memory (map (λ m. m.call) calls))
 
-pub contracts-kept : ContractsKept
-contracts-kept c next text M M' b l r v κ κ' =
+pub contracts_kept : ContractsKept
+contracts_kept c next text M M' b l r v κ κ' =
     (λ e. e, λ e j. e j M.now, λ e. e, λ e. e, λ e. e, λ e j. e.0 j M.now)
 
-pub nothing-asked : NothingAsked
-nothing-asked c text M b κ κ' = (tt, tt, tt, tt, tt, tt)
+pub nothing_asked : NothingAsked
+nothing_asked c text M b κ κ' = (tt, tt, tt, tt, tt, tt)

@@ -9,28 +9,28 @@ use borrow.Author.Tests.{ltb-true, lt-ltb}
 use lib.Dec.{ltb}
 use lib.ListN.{length, take, drop, set, get_or, length-set, take-append-drop}
 use lib.Seq.{take-suc, take-suc-set, append_snoc, drop-set-lt}
-use Rattle.output.specs.Page.{Page, pageAt, putByte, putOn}
+use Rattle.output.specs.Page.{Page, page_at, put_byte, put_on}
 use Rattle.output.specs.Theorems.{PutWhole}
 
 -- some, and others after them
-both : (some others : List ℕ) (page : Page) → putOn page (some ++ others) ≡ putOn (putOn page some) others
-unfolding putOn
+both : (some others : List ℕ) (page : Page) → put_on page (some ++ others) ≡ put_on (put_on page some) others
+unfolding put_on
 both [] others page = refl
 both (byte ∷ some) others page = both some others _
 
 -- put in two parts
-pub put_both : (page : Page) (some others : List ℕ) {mid after : Page} → mid ≡ putOn page some → after ≡ putOn mid others
-    → after ≡ putOn page (some ++ others)
-put_both page some others first second = second ∙ ap (λ (p : Page). putOn p others) first ∙ sym (both some others page)
+pub put_both : (page : Page) (some others : List ℕ) {mid after : Page} → mid ≡ put_on page some → after ≡ put_on mid others
+    → after ≡ put_on page (some ++ others)
+put_both page some others first second = second ∙ ap (λ (p : Page). put_on p others) first ∙ sym (both some others page)
 
 -- one byte more
-pub put_one : (page : Page) (bytes : List ℕ) (i : ℕ) {mid after : Page} → mid ≡ putOn page (take i bytes) → i < length bytes
-    → after ≡ putByte mid (get_or bytes i 0) → after ≡ putOn page (take (i + 1) bytes)
-unfolding putOn
+pub put_one : (page : Page) (bytes : List ℕ) (i : ℕ) {mid after : Page} → mid ≡ put_on page (take i bytes) → i < length bytes
+    → after ≡ put_byte mid (get_or bytes i 0) → after ≡ put_on page (take (i + 1) bytes)
+unfolding put_on
 put_one page bytes i before more put = rw (add-one i, take-suc bytes i 0) (put_both page (take i bytes) (get_or bytes i 0 ∷ []) before put)
 
 pub put_whole : PutWhole
-unfolding putOn
+unfolding put_on
 put_whole page [] place room =
     let none : place + 0 ≡ place = omega arith in rw (none, append-nil (take place page), take-append-drop place page)
 put_whole page (byte ∷ text) place room =
@@ -46,14 +46,14 @@ put_whole page (byte ∷ text) place room =
     ))
 
 -- no place past the page's end is reached
-pub put-within : (page : Page) (text : List ℕ) → page.place ≤ length page.bytes
-    → (putOn page text).place ≤ length (putOn page text).bytes
-unfolding putOn
-put-within page [] h = h
-put-within page (byte ∷ text) h = put-within (putByte page byte) text (by (ltb page.place (length page.bytes)) refl)
+pub put_within : (page : Page) (text : List ℕ) → page.place ≤ length page.bytes
+    → (put_on page text).place ≤ length (put_on page text).bytes
+unfolding put_on
+put_within page [] h = h
+put_within page (byte ∷ text) h = put_within (put_byte page byte) text (by (ltb page.place (length page.bytes)) refl)
   where
     by : (b : Bool) → ltb page.place (length page.bytes) ≡ b
-        → (cond b (pageAt (set page.bytes page.place byte) (page.place + 1)) page).place
-        ≤ length (cond b (pageAt (set page.bytes page.place byte) (page.place + 1)) page).bytes
+        → (cond b (page_at (set page.bytes page.place byte) (page.place + 1)) page).place
+        ≤ length (cond b (page_at (set page.bytes page.place byte) (page.place + 1)) page).bytes
     by true e = rw (length-set page.bytes page.place byte) (omega (arith, ltb-true page.place (length page.bytes) e))
     by false e = h

@@ -4,31 +4,31 @@ use Rattle.std.specs.Prelude.{◌≡◌, List, [], ◌++◌, ℕ, zero, suc, ◌
 use Rattle.words.specs.Memory.{word_at}
 use Rattle.r8_core.specs.Calls.{Reply, step}
 use Rattle.r8_core.specs.declared.Core.{Core}
-use Rattle.text.specs.Text.{lineText}
-use Rattle.trace.specs.Trace.{cyclesOf, rows_of}
-use Rattle.output.specs.Page.{pageAt, putOn}
-use Rattle.printed.specs.Printed.{linesText, printedTrace}
+use Rattle.text.specs.Text.{line_text}
+use Rattle.trace.specs.Trace.{cycles_of, rows_of}
+use Rattle.output.specs.Page.{page_at, put_on}
+use Rattle.printed.specs.Printed.{lines_text, printed_trace}
 
 -- the lines of so many steps, one after the other: 'address, word, cycles, NZCV after' of each, without rows of numbers between
-unfoldable pub stepsText : ℕ → Core → List ℕ → List ℕ
-stepsText zero core memory = []
-stepsText (suc n) core memory =
+unfoldable pub steps_text : ℕ → Core → List ℕ → List ℕ
+steps_text zero core memory = []
+steps_text (suc n) core memory =
     let stepped : Reply = step core memory in
-    lineText core.pc (word_at memory core.pc) (cyclesOf stepped.answer) stepped.core.flags
-    ++ stepsText n stepped.core stepped.memory
+    line_text core.pc (word_at memory core.pc) (cycles_of stepped.answer) stepped.core.flags
+    ++ steps_text n stepped.core stepped.memory
 
--- they are the lines of the rows that a trace has of these steps (proved as `lines-of-steps`)
+-- they are the lines of the rows that a trace has of these steps (proved as `lines_of_steps`)
 abbrev pub LinesOfSteps : Type 0
-LinesOfSteps = (n : ℕ) (core : Core) (memory rest : List ℕ) → linesText n (rows_of n core memory ++ rest) ≡ stepsText n core memory
+LinesOfSteps = (n : ℕ) (core : Core) (memory rest : List ℕ) → lines_text n (rows_of n core memory ++ rest) ≡ steps_text n core memory
 
--- of every listing something is written, and at most 16,384 bytes (proved as `text-fits`)
+-- of every listing something is written, and at most 16,384 bytes (proved as `text_fits`)
 abbrev pub TextFits : Type 0
-TextFits = (listing : List ℕ) → (0 < length (printedTrace listing)) × (length (printedTrace listing) ≤ 16384)
+TextFits = (listing : List ℕ) → (0 < length (printed_trace listing)) × (length (printed_trace listing) ≤ 16384)
 
 -- so on a page that has as many, the first bytes are all that is written, their count is answered, and the others stay (proved as
--- `page-holds`)
+-- `page_holds`)
 abbrev pub PageHolds : Type 0
 PageHolds =
     (listing page : List ℕ) → 16384 ≤ length page
-    → let text : List ℕ = printedTrace listing in
-    putOn (pageAt page 0) text ≡ pageAt (text ++ drop (length text) page) (length text)
+    → let text : List ℕ = printed_trace listing in
+    put_on (page_at page 0) text ≡ page_at (text ++ drop (length text) page) (length text)

@@ -1,9 +1,9 @@
 // What r8trace writes of a listing, byte by byte, on a lent page.
 ghost use Rattle.std.specs.Prelude.{◌≡◌, ◌+◌, ◌*◌, ◌≤◌, drop};
-ghost use Rattle.listing.specs.Answers.{faultNumber};
+ghost use Rattle.listing.specs.Answers.{fault_number};
 ghost use Rattle.r8_core.specs.Calls.{ran};
-ghost use Rattle.output.specs.Page.{pageAt, putOn};
-ghost use Rattle.printed.specs.Printed.{rowText, linesText, refusedText, answerText, printedTrace};
+ghost use Rattle.output.specs.Page.{page_at, put_on};
+ghost use Rattle.printed.specs.Printed.{row_text, lines_text, refused_text, answer_text, printed_trace};
 
 use isa::Cycles;
 use listing::Fault;
@@ -14,7 +14,7 @@ use trace::TraceAnswer;
 // change nothing.
 fn row_text(rows: &[u64; 2000], at: usize) -> [u8; 17]
     requires { at + 4 ≤ 2000 }
-    ensures { result ≡ rowText (drop at rows.now) }
+    ensures { result ≡ row_text (drop at rows.now) }
 {
     let address = (rows[at] % 65536) as u16;
     let word = (rows[at + 1] % 65536) as u16;
@@ -25,7 +25,7 @@ fn row_text(rows: &[u64; 2000], at: usize) -> [u8; 17]
 // Puts the lines of so many rows on a page, and answers the place after them.
 fn put_lines(page: &mut [u8], rows: &[u64; 2000], count: u32) -> usize
     requires { 4 * count ≤ 2000 }
-    ensures { pageAt page.new result ≡ putOn (pageAt page.old 0) (linesText count rows.now) }
+    ensures { page_at page.new result ≡ put_on (page_at page.old 0) (lines_text count rows.now) }
 {
     let mut at = 0;
     for i in 0..count {
@@ -43,7 +43,7 @@ fn put_trace(
     end: End,
 ) -> usize
     requires { 4 * instructions.0 ≤ 2000 }
-    ensures { pageAt page.new result ≡ putOn (pageAt page.old 0) (answerText (ran cycles.0 instructions.0 end) rows.now) }
+    ensures { page_at page.new result ≡ put_on (page_at page.old 0) (answer_text (ran cycles.0 instructions.0 end) rows.now) }
 {
     let mut at = put_lines(page, rows, instructions.0);
     at = output::put_totals(
@@ -57,7 +57,7 @@ fn put_trace(
 }
 
 fn put_refusal(page: &mut [u8], fault: Fault, offset: usize) -> usize
-    ensures { pageAt page.new result ≡ putOn (pageAt page.old 0) (refusedText (faultNumber fault) offset) }
+    ensures { page_at page.new result ≡ put_on (page_at page.old 0) (refused_text (fault_number fault) offset) }
 {
     let mut at = output::put_number(page, 0, b"refused ", listing::fault_number(fault) as u64);
     at = output::put_number(page, at, b" at ", offset as u64);
@@ -67,7 +67,7 @@ fn put_refusal(page: &mut [u8], fault: Fault, offset: usize) -> usize
 // Puts what r8trace writes of a listing on a page, and answers how many bytes that is; on a page that is too short, the first of them. One
 // of 16,384 bytes is never too short.
 pub fn trace_text(listing: &[u8], page: &mut [u8]) -> usize
-    ensures { pageAt page.new result ≡ putOn (pageAt page.old 0) (printedTrace listing.now) }
+    ensures { page_at page.new result ≡ put_on (page_at page.old 0) (printed_trace listing.now) }
 {
     let mut rows = [0u64; 2000];
     let answer = trace::trace(listing, &mut rows);

@@ -7,52 +7,52 @@ use Prim.Native.Nat.{ℕ, ◌≤◌}
 use lib.Dec.{eqb, lit≤}
 use Rattle.replay.specs.declared.ReplayAnswer.{ReplayAnswer}
 use Rattle.replay.specs.declared.ReplayAnswer.TheVariants.{Played, NoCall, NoStretch, NoRoom}
-use Rattle.r8.specs.Codes.{Code, ok, undefined, noRoom, noCore, noCall, noStretch, tooLong, codeNumber}
-use Rattle.r8.specs.Replay.{replayCode, replayPlace}
+use Rattle.r8.specs.Codes.{Code, ok, undefined, no_room, no_core, no_call, no_stretch, too_long, code_number}
+use Rattle.r8.specs.Replay.{replay_code, replay_place}
 use Rattle.r8.specs.Theorems.{CodesApart, ReplayApart}
 
 -- the code of a number
-abbrev codeFrom : ℕ → Code
-codeFrom n =
-    let is : Code → Code → Code = λ x other. cond (eqb n (codeNumber x)) x other in
-    is ok (is undefined (is noRoom (is noCore (is noCall (is noStretch tooLong)))))
+abbrev code_from : ℕ → Code
+code_from n =
+    let is : Code → Code → Code = λ x other. cond (eqb n (code_number x)) x other in
+    is ok (is undefined (is no_room (is no_core (is no_call (is no_stretch too_long)))))
 
-code-back : (x : Code) → codeFrom (codeNumber x) ≡ x
-code-back ok = refl
-code-back undefined = refl
-code-back noRoom = refl
-code-back noCore = refl
-code-back noCall = refl
-code-back noStretch = refl
-code-back tooLong = refl
+code_back : (x : Code) → code_from (code_number x) ≡ x
+code_back ok = refl
+code_back undefined = refl
+code_back no_room = refl
+code_back no_core = refl
+code_back no_call = refl
+code_back no_stretch = refl
+code_back too_long = refl
 
-own : (x : Code) → (x ≡ ok) ⊎ (x ≡ undefined) ⊎ (100 ≤ codeNumber x)
+own : (x : Code) → (x ≡ ok) ⊎ (x ≡ undefined) ⊎ (100 ≤ code_number x)
 own ok = inl refl
 own undefined = inr (inl refl)
-own noRoom = inr (inr (lit≤ tt))
-own noCore = inr (inr (lit≤ tt))
-own noCall = inr (inr (lit≤ tt))
-own noStretch = inr (inr (lit≤ tt))
-own tooLong = inr (inr (lit≤ tt))
+own no_room = inr (inr (lit≤ tt))
+own no_core = inr (inr (lit≤ tt))
+own no_call = inr (inr (lit≤ tt))
+own no_stretch = inr (inr (lit≤ tt))
+own too_long = inr (inr (lit≤ tt))
 
-pub codes-apart : CodesApart
-codes-apart = (λ x y e. sym (code-back x) ∙ ap codeFrom e ∙ code-back y, own)
+pub codes_apart : CodesApart
+codes_apart = (λ x y e. sym (code_back x) ∙ ap code_from e ∙ code_back y, own)
 
 -- the answer of a code and a place
-abbrev answerFrom : Code → ℕ → ReplayAnswer
-answerFrom ok i = Played i
-answerFrom undefined i = NoRoom
-answerFrom noRoom i = NoRoom
-answerFrom noCore i = NoRoom
-answerFrom noCall i = NoCall i
-answerFrom noStretch i = NoStretch i
-answerFrom tooLong i = NoRoom
+abbrev answer_from : Code → ℕ → ReplayAnswer
+answer_from ok i = Played i
+answer_from undefined i = NoRoom
+answer_from no_room i = NoRoom
+answer_from no_core i = NoRoom
+answer_from no_call i = NoCall i
+answer_from no_stretch i = NoStretch i
+answer_from too_long i = NoRoom
 
-answer_back : (x : ReplayAnswer) → answerFrom (replayCode x) (replayPlace x) ≡ x
+answer_back : (x : ReplayAnswer) → answer_from (replay_code x) (replay_place x) ≡ x
 answer_back (Played count) = refl
 answer_back (NoCall i) = refl
 answer_back (NoStretch i) = refl
 answer_back NoRoom = refl
 
-pub replay-apart : ReplayApart
-replay-apart x y code place = sym (answer_back x) ∙ (λ j. answerFrom (code j) (place j)) ∙ answer_back y
+pub replay_apart : ReplayApart
+replay_apart x y code place = sym (answer_back x) ∙ (λ j. answer_from (code j) (place j)) ∙ answer_back y

@@ -6,27 +6,27 @@ use Prim.Native.Nat.{ℕ, ◌*◌}
 use borrow.Author.Tests.{eqb-true}
 use lib.Dec.{eqb}
 use lib.ListN.{length, drop}
-use Rattle.dump.specs.Dump.{listingText, dumpNumber, written, refused, refusedAt, refusal, dumped}
-use Rattle.dump.proofs.Refusals.{exact, none-exact}
-use Rattle.r8.specs.Dump.{dumpCode, dumpReturned}
+use Rattle.dump.specs.Dump.{listing_text, dump_number, written, refused, refused_at, refusal, dumped}
+use Rattle.dump.proofs.Refusals.{exact, none_exact}
+use Rattle.r8.specs.Dump.{dump_code, dump_returned}
 use Rattle.r8.specs.Theorems.{DumpCodes}
 
 module _ (memory : List ℕ) (first count : ℕ) (text : List ℕ) where
-  returned : (dumpReturned (dumped memory first count text)).0 ≡ dumpNumber (length memory) first count (length text)
+  returned : (dump_returned (dumped memory first count text)).0 ≡ dump_number (length memory) first count (length text)
   unfolding dumped
-  returned = by (dumpNumber (length memory) first count (length text)) (eqb (dumpNumber (length memory) first count (length text)) 0) refl
+  returned = by (dump_number (length memory) first count (length text)) (eqb (dump_number (length memory) first count (length text)) 0) refl
     where
-      by-four : (n : ℕ) (four : Bool) → dumpCode (cond four (refusedAt n 0) (refused n)) ≡ n
-      by-four n true = refl
-      by-four n false = refl
+      by_four : (n : ℕ) (four : Bool) → dump_code (cond four (refused_at n 0) (refused n)) ≡ n
+      by_four n true = refl
+      by_four n false = refl
 
       by : (n : ℕ) (zero : Bool) → eqb n 0 ≡ zero
-          → (dumpReturned
-          (cond zero (record { answer = written (10 * count); text = listingText memory first count ++ drop (10 * count) text })
+          → (dump_returned
+          (cond zero (record { answer = written (10 * count); text = listing_text memory first count ++ drop (10 * count) text })
           (record { answer = refusal n; text = text }))).0
           ≡ n
       by n true e = sym (eqb-true n 0 e)
-      by n false e = by-four n (eqb n 4)
+      by n false e = by_four n (eqb n 4)
 
-pub dump-codes : DumpCodes
-dump-codes memory first count text = rw (returned memory first count text) (none-exact memory first count text, exact memory first count text, refl)
+pub dump_codes : DumpCodes
+dump_codes memory first count text = rw (returned memory first count text) (none_exact memory first count text, exact memory first count text, refl)

@@ -3,20 +3,20 @@ use Rattle.std.specs.Prelude.{List, ℕ}
 use Rattle.replay.specs.Replay.{Replayed}
 use Rattle.replay.specs.declared.ReplayAnswer.{ReplayAnswer}
 use Rattle.replay.specs.declared.ReplayAnswer.TheVariants.{Played, NoCall, NoStretch, NoRoom}
-use Rattle.r8.specs.Codes.{Code, ok, noCall, noStretch, noRoom, codeNumber}
+use Rattle.r8.specs.Codes.{Code, ok, no_call, no_stretch, no_room, code_number}
 
-abbrev pub replayCode : ReplayAnswer → Code
-replayCode (Played count) = ok
-replayCode (NoCall i) = noCall
-replayCode (NoStretch i) = noStretch
-replayCode NoRoom = noRoom
+abbrev pub replay_code : ReplayAnswer → Code
+replay_code (Played count) = ok
+replay_code (NoCall i) = no_call
+replay_code (NoStretch i) = no_stretch
+replay_code NoRoom = no_room
 
 -- how many calls were played, or which is faulty
-abbrev pub replayPlace : ReplayAnswer → ℕ
-replayPlace (Played count) = count
-replayPlace (NoCall i) = i
-replayPlace (NoStretch i) = i
-replayPlace NoRoom = 0
+abbrev pub replay_place : ReplayAnswer → ℕ
+replay_place (Played count) = count
+replay_place (NoCall i) = i
+replay_place (NoStretch i) = i
+replay_place NoRoom = 0
 
 pub record Returned : Type 0 where
   pub code : ℕ
@@ -24,9 +24,9 @@ pub record Returned : Type 0 where
   pub memory : List ℕ
   pub answers : List ℕ
 
-abbrev pub returnedReplay : ℕ → ℕ → List ℕ → List ℕ → Returned
-returnedReplay code at memory answers = record { code = code; at = at; memory = memory; answers = answers }
+abbrev pub returned_replay : ℕ → ℕ → List ℕ → List ℕ → Returned
+returned_replay code at memory answers = record { code = code; at = at; memory = memory; answers = answers }
 
 -- what `replay` says of it, with its answer as numbers
-abbrev pub replayReturned : Replayed → Returned
-replayReturned x = returnedReplay (codeNumber (replayCode x.answer)) (replayPlace x.answer) x.memory x.answers
+abbrev pub replay_returned : Replayed → Returned
+replay_returned x = returned_replay (code_number (replay_code x.answer)) (replay_place x.answer) x.memory x.answers

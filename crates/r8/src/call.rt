@@ -1,10 +1,10 @@
 // A run and a step of a core given as numbers.
 ghost use Rattle.std.specs.Prelude.{◌≡◌, ◌≤◌, length, take, get_or};
 ghost use Rattle.r8_core.specs.Calls.{run, step};
-ghost use Rattle.r8_core.specs.Answers.{runAnswerOf};
-ghost use Rattle.layout.specs.Layout.{flags_of, answerNumbers, onto};
-ghost use Rattle.r8.specs.Numbers.{stopOf, hiddenOf, core_of, registersOf, state_of, isCore};
-ghost use Rattle.r8.specs.Codes.{codeNumber};
+ghost use Rattle.r8_core.specs.Answers.{run_answer_of};
+ghost use Rattle.layout.specs.Layout.{flags_of, answer_numbers, onto};
+ghost use Rattle.r8.specs.Numbers.{stop_of, hidden_of, core_of, registers_of, state_of, is_core};
+ghost use Rattle.r8.specs.Codes.{code_number};
 ghost use Rattle.r8.specs.Call.{code_of, slices, called};
 
 use super::codes;
@@ -19,7 +19,7 @@ fn flags_of(n: u32) -> Flags
 }
 
 fn stop_of(n: u32) -> Stop
-    ensures { result ≡ stopOf n }
+    ensures { result ≡ stop_of n }
 {
     match n {
         0 => Stop::Going,
@@ -29,7 +29,7 @@ fn stop_of(n: u32) -> Stop
 }
 
 fn is_core(registers: &[u16], state: &[u32]) -> bool
-    ensures { result ≡ isCore registers.now state.now }
+    ensures { result ≡ is_core registers.now state.now }
 {
     if registers.len() != 22 {
         return false;
@@ -47,7 +47,7 @@ fn is_core(registers: &[u16], state: &[u32]) -> bool
 }
 
 fn code_of(registers: &[u16], state: &[u32], answer: &[u64]) -> u32
-    ensures { result ≡ codeNumber (code_of registers.now state.now answer.now) }
+    ensures { result ≡ code_number (code_of registers.now state.now answer.now) }
 {
     if !is_core(registers, state) {
         return codes::NO_CORE;
@@ -69,7 +69,7 @@ fn bank_of(registers: &[u16]) -> [u16; 16]
 
 fn hidden_of(registers: &[u16]) -> Hidden
     requires { length registers.now ≡ 22 }
-    ensures { result ≡ hiddenOf registers.now }
+    ensures { result ≡ hidden_of registers.now }
 {
     Hidden {
         ir: registers[18],
@@ -100,7 +100,7 @@ fn core_of(registers: &[u16], state: &[u32]) -> Core
 
 fn put_registers(core: Core, registers: &mut [u16])
     requires { length registers.old ≡ 22 }
-    ensures { registers.new ≡ registersOf core }
+    ensures { registers.new ≡ registers_of core }
 {
     let bank = core.regs;
     super::copy::words(&bank, registers);
@@ -128,7 +128,7 @@ fn put_state(core: Core, state: &mut [u32])
 // The next core and the answer, into the lent slices.
 fn put(reply: RunReply, registers: &mut [u16], state: &mut [u32], answer: &mut [u64])
     requires { (length registers.old ≡ 22) × (length state.old ≡ 4) × (23 ≤ length answer.old) }
-    ensures { (registers.new ≡ registersOf reply.core) × (state.new ≡ state_of reply.core) × (answer.new ≡ onto (answerNumbers (runAnswerOf reply.answer)) answer.old) }
+    ensures { (registers.new ≡ registers_of reply.core) × (state.new ≡ state_of reply.core) × (answer.new ≡ onto (answer_numbers (run_answer_of reply.answer)) answer.old) }
 {
     let core = reply.core;
     let said = reply.answer;

@@ -1,12 +1,12 @@
 // The form of a word as seven numbers.
 ghost use Rattle.std.specs.Prelude.{◌≡◌};
-ghost use Rattle.r8.specs.Form.{formNumbers, formed};
+ghost use Rattle.r8.specs.Form.{form_numbers, formed};
 
 use super::codes;
 use forms::{Form, FormAnswer};
 
 fn form_numbers(form: Form) -> [u16; 7]
-    ensures { result ≡ formNumbers form }
+    ensures { result ≡ form_numbers form }
 {
     let parts = forms::parts_of(form);
     let x = parts.1;

@@ -1,14 +1,14 @@
 // A list of calls given as data.
 ghost use Rattle.std.specs.Prelude.{◌≡◌};
-ghost use Rattle.replay.specs.Replay.{readCalls, replayed};
-ghost use Rattle.r8.specs.Codes.{codeNumber};
-ghost use Rattle.r8.specs.Replay.{replayCode, replayPlace, replayReturned, returnedReplay};
+ghost use Rattle.replay.specs.Replay.{read_calls, replayed};
+ghost use Rattle.r8.specs.Codes.{code_number};
+ghost use Rattle.r8.specs.Replay.{replay_code, replay_place, replay_returned, returned_replay};
 
 use super::codes;
 use replay::ReplayAnswer;
 
 fn code_of(answer: ReplayAnswer) -> u32
-    ensures { result ≡ codeNumber (replayCode answer) }
+    ensures { result ≡ code_number (replay_code answer) }
 {
     match answer {
         ReplayAnswer::Played(_) => codes::OK,
@@ -20,7 +20,7 @@ fn code_of(answer: ReplayAnswer) -> u32
 
 // How many calls were played, or the index of the faulty one.
 fn place_of(answer: ReplayAnswer) -> u64
-    ensures { result ≡ replayPlace answer }
+    ensures { result ≡ replay_place answer }
 {
     match answer {
         ReplayAnswer::Played(count) => count as u64,
@@ -38,7 +38,7 @@ pub extern "C" fn r8_replay(
     answers: &mut [u64],
     at: &mut u64,
 ) -> u32
-    ensures { returnedReplay result at.new memory.new answers.new ≡ replayReturned (replayed (readCalls text.now calls.now) memory.old answers.old) }
+    ensures { returned_replay result at.new memory.new answers.new ≡ replay_returned (replayed (read_calls text.now calls.now) memory.old answers.old) }
 {
     let answer = replay::replay(calls, text, memory, answers);
     *at = place_of(answer);

@@ -1,7 +1,7 @@
 // The trace of a listing, as numbers.
 ghost use Rattle.std.specs.Prelude.{◌≡◌};
-ghost use Rattle.trace.specs.Trace.{findingOf};
-ghost use Rattle.r8.specs.Trace.{foundReturned, tracedReturned, traceReturned};
+ghost use Rattle.trace.specs.Trace.{finding_of};
+ghost use Rattle.r8.specs.Trace.{found_returned, traced_returned, trace_returned};
 
 use super::codes;
 use r8_core::{LoadAnswer, RunAnswer};
@@ -9,7 +9,7 @@ use trace::TraceAnswer;
 
 // The answer that was found, into the lent slice.
 fn put_found(found: TraceAnswer, answer: &mut [u64]) -> u32
-    ensures { (result, answer.new) ≡ foundReturned (findingOf found) answer.old }
+    ensures { (result, answer.new) ≡ found_returned (finding_of found) answer.old }
 {
     match found {
         TraceAnswer::Traced {
@@ -37,7 +37,7 @@ fn put_found(found: TraceAnswer, answer: &mut [u64]) -> u32
 
 #[unsafe(no_mangle)]
 pub extern "C" fn r8_trace(listing: &[u8], rows: &mut [u64], answer: &mut [u64]) -> u32
-    ensures { traceReturned result rows.new answer.new ≡ tracedReturned listing.now rows.old answer.old }
+    ensures { trace_returned result rows.new answer.new ≡ traced_returned listing.now rows.old answer.old }
 {
     if 65536 < listing.len() {
         return codes::TOO_LONG;

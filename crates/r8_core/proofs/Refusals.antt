@@ -9,74 +9,74 @@ use native.Mathlib.Omega.{arith}
 use borrow.Author.Tests.{ltb-true, ltb-false, leb-true, leb-false, eqb-true, eqb-false, lt-ltb, not-true, not-false}
 use lib.Dec.{eqb, leb}
 use lib.ListN.{length}
-use Rattle.refusals.specs.Refusals.{wrongLength}
+use Rattle.refusals.specs.Refusals.{wrong_length}
 use Rattle.refusals.specs.Theorems.{Means, MeanAll}
-use Rattle.refusals.proofs.First.{clash, no_more, more, first-exactly, none-applies, length-exactly}
+use Rattle.refusals.proofs.First.{clash, no_more, more, first_exactly, none_applies, length_exactly}
 use Rattle.listing.specs.Answers as listing
-use Rattle.listing.specs.Listing.{listingAnswer}
-use Rattle.listing.proofs.Theorems.{refused-unchanged as listing-unchanged}
+use Rattle.listing.specs.Listing.{listing_answer}
+use Rattle.listing.proofs.Theorems.{refused_unchanged as listing-unchanged}
 use Rattle.effects.specs.declared.Stop.{Stop}
 use Rattle.effects.specs.declared.Stop.TheVariants.{Going, Halted, Undefined}
-use Rattle.r8_core.specs.Spent.{dueOne, dueInRange}
-use Rattle.r8_core.specs.Numbers.{isGoing, clockFull, loadNumber, runNumber, stepNumber, viewNumber}
-use Rattle.r8_core.specs.Progress.{starting, cyclesOn}
-use Rattle.r8_core.specs.Calls.{Answer, refusedAt, stored, ran, viewed, refused, Reply, unless, loadAnswer, loadedReply, viewedReply, ranReply, steppedReply, reset, load, view, run, step}
-use Rattle.r8_core.specs.TheoremsOfCalls.{loadNumbers, runNumbers, stepNumbers, viewNumbers, NumbersExactly, RefusalsUnchanged}
-use Rattle.r8_core.specs.Cores.{Visible, visibleOf}
-use Rattle.r8_core.specs.Instruction.{takes, stepTransition}
+use Rattle.r8_core.specs.Spent.{due_one, due_in_range}
+use Rattle.r8_core.specs.Numbers.{is_going, clock_full, load_number, run_number, step_number, view_number}
+use Rattle.r8_core.specs.Progress.{starting, cycles_on}
+use Rattle.r8_core.specs.Calls.{Answer, refused_at, stored, ran, viewed, refused, Reply, unless, load_answer, loaded_reply, viewed_reply, ran_reply, stepped_reply, reset, load, view, run, step}
+use Rattle.r8_core.specs.TheoremsOfCalls.{load_numbers, run_numbers, step_numbers, view_numbers, NumbersExactly, RefusalsUnchanged}
+use Rattle.r8_core.specs.Cores.{Visible, visible_of}
+use Rattle.r8_core.specs.Instruction.{takes, step_transition}
 use Rattle.r8_core.specs.declared.Core.{Core}
 use Rattle.r8_core.specs.declared.End.{End}
-use Rattle.r8_core.proofs.Spent.{due-when-one, one-when-due}
+use Rattle.r8_core.proofs.Spent.{due_when_one, one_when_due}
 
 -- a run that no number refuses, or a step with 4 for b
-pub record Ready (L : ℕ) (stop : Stop) (dueRight : Bool) (clock b : ℕ) : Type 0 where
-  pub size : wrongLength L ≡ false
-  pub going : isGoing stop ≡ true
-  pub due : dueRight ≡ true
+pub record Ready (L : ℕ) (stop : Stop) (due_right : Bool) (clock b : ℕ) : Type 0 where
+  pub size : wrong_length L ≡ false
+  pub going : is_going stop ≡ true
+  pub due : due_right ≡ true
   pub room : clock + b ≤ 4294967295
 
-pub ready : (L : ℕ) (stop : Stop) (dueRight : Bool) (clock b : ℕ) → runNumber L stop dueRight clock b ≡ 0
-    → Ready L stop dueRight clock b
-unfolding runNumber
-ready L stop dueRight clock b e =
-    let size = none-applies 0 (wrongLength L) _ e in
-    let going = none-applies 7 (not (isGoing stop)) _ size.1 in
-    let due = none-applies 6 (not dueRight) _ going.1 in
-    let room = none-applies 8 (clockFull clock b) _ due.1 in
+pub ready : (L : ℕ) (stop : Stop) (due_right : Bool) (clock b : ℕ) → run_number L stop due_right clock b ≡ 0
+    → Ready L stop due_right clock b
+unfolding run_number
+ready L stop due_right clock b e =
+    let size = none_applies 0 (wrong_length L) _ e in
+    let going = none_applies 7 (not (is_going stop)) _ size.1 in
+    let due = none_applies 6 (not due_right) _ going.1 in
+    let room = none_applies 8 (clock_full clock b) _ due.1 in
     record {
       size = size.0;
-      going = not-false (isGoing stop) going.0;
-      due = not-false dueRight due.0;
+      going = not-false (is_going stop) going.0;
+      due = not-false due_right due.0;
       room = ltb-false 4294967295 (clock + b) room.0;
     }
 
 -- what the tests mean
-stop-means : (s : Stop) → Means (not (isGoing s)) (s ≡ Going → ⊥)
-stop-means Going = (λ e. absurd (clash e refl), λ e n. n refl)
-stop-means Halted = (λ e g. let z : ◌≡◌ {A = ℕ} 0 1 = cc in omega arith, λ e. absurd (clash refl e))
-stop-means Undefined = (λ e g. let z : ◌≡◌ {A = ℕ} 0 1 = cc in omega arith, λ e. absurd (clash refl e))
+stop_means : (s : Stop) → Means (not (is_going s)) (s ≡ Going → ⊥)
+stop_means Going = (λ e. absurd (clash e refl), λ e n. n refl)
+stop_means Halted = (λ e g. let z : ◌≡◌ {A = ℕ} 0 1 = cc in omega arith, λ e. absurd (clash refl e))
+stop_means Undefined = (λ e g. let z : ◌≡◌ {A = ℕ} 0 1 = cc in omega arith, λ e. absurd (clash refl e))
 
-one-means : (core : Core) → Means (not (dueOne core)) (core.due ≡ 1 → ⊥)
-one-means core = (
-  λ e d. clash (one-when-due core d) (not-true (dueOne core) e),
-  λ e n. n (due-when-one core (not-false (dueOne core) e)),
+one_means : (core : Core) → Means (not (due_one core)) (core.due ≡ 1 → ⊥)
+one_means core = (
+  λ e d. clash (one_when_due core d) (not-true (due_one core) e),
+  λ e n. n (due_when_one core (not-false (due_one core) e)),
 )
 
-clock-means : (clock b : ℕ) → Means (clockFull clock b) (4294967295 < clock + b)
-clock-means clock b = (λ e. ltb-true 4294967295 (clock + b) e, λ e l. clash (lt-ltb 4294967295 (clock + b) l) e)
+clock_means : (clock b : ℕ) → Means (clock_full clock b) (4294967295 < clock + b)
+clock_means clock b = (λ e. ltb-true 4294967295 (clock + b) e, λ e l. clash (lt-ltb 4294967295 (clock + b) l) e)
 
-range-by : (due : ℕ) (low high : Bool) → leb 1 due ≡ low → leb due 4 ≡ high
+range_by : (due : ℕ) (low high : Bool) → leb 1 due ≡ low → leb due 4 ≡ high
     → Means (not (cond low high false)) ((due < 1) ⊎ (4 < due))
-range-by due false high l h = (λ _. inl (leb-false 1 due l), λ e. absurd (clash refl e))
-range-by due true false l h = (λ _. inr (leb-false due 4 h), λ e. absurd (clash refl e))
-range-by due true true l h = (λ e. absurd (clash e refl), λ _. no)
+range_by due false high l h = (λ _. inl (leb-false 1 due l), λ e. absurd (clash refl e))
+range_by due true false l h = (λ _. inr (leb-false due 4 h), λ e. absurd (clash refl e))
+range_by due true true l h = (λ e. absurd (clash e refl), λ _. no)
   where
     no : (due < 1) ⊎ (4 < due) → ⊥
     no (inl z) = let a = leb-true 1 due l in omega arith
     no (inr z) = let a = leb-true due 4 h in omega arith
 
-range-means : (core : Core) → Means (not (dueInRange core)) ((core.due < 1) ⊎ (4 < core.due))
-range-means core = range-by core.due (leb 1 core.due) (leb core.due 4) refl refl
+range_means : (core : Core) → Means (not (due_in_range core)) ((core.due < 1) ⊎ (4 < core.due))
+range_means core = range_by core.due (leb 1 core.due) (leb core.due 4) refl refl
 
 -- a reply is a refusal exactly where the number is one
 Never : ℕ → Answer → Type 0
@@ -103,98 +103,98 @@ unchanged n number core memory taken never = by (eqb number 0) refl
     by true h = rw h (λ e. absurd (never e))
     by false h = rw h (λ e. (refl, refl))
 
-load-never : (n : ℕ) (answer : listing.Answer) → Never n (loadAnswer answer)
+load_never : (n : ℕ) (answer : listing.Answer) → Never n (load_answer answer)
 unfolding Never
-load-never n (listing.stored count) e = let z : ◌≡◌ {A = ℕ} 0 1 = cc in omega arith
-load-never n (listing.refused number offset) e = let z : ◌≡◌ {A = ℕ} 0 1 = cc in omega arith
+load_never n (listing.stored count) e = let z : ◌≡◌ {A = ℕ} 0 1 = cc in omega arith
+load_never n (listing.refused number offset) e = let z : ◌≡◌ {A = ℕ} 0 1 = cc in omega arith
 
-ran-never : (n used finished : ℕ) (end : End) → Never n (ran used finished end)
+ran_never : (n used finished : ℕ) (end : End) → Never n (ran used finished end)
 unfolding Never
-ran-never n used finished end e = let z : ◌≡◌ {A = ℕ} 0 1 = cc in omega arith
+ran_never n used finished end e = let z : ◌≡◌ {A = ℕ} 0 1 = cc in omega arith
 
-viewed-never : (n : ℕ) (v : Visible) (due clock : ℕ) → Never n (viewed v due clock)
+viewed_never : (n : ℕ) (v : Visible) (due clock : ℕ) → Never n (viewed v due clock)
 unfolding Never
-viewed-never n v due clock e = let z : ◌≡◌ {A = ℕ} 0 1 = cc in omega arith
+viewed_never n v due clock e = let z : ◌≡◌ {A = ℕ} 0 1 = cc in omega arith
 
 both : {A B C : Type 0} → A ↔ B → B ↔ C → A ↔ C
 both p q = (λ a. q.0 (p.0 a), λ c. p.1 (q.1 c))
 
 -- the tests of each call, in their order
 module _ (core : Core) (memory : List ℕ) where
-  pub load-mean : MeanAll ((1, wrongLength (length memory)) ∷ (7, not (dueOne core)) ∷ []) (loadNumbers core memory)
-  load-mean = more 1 _ _ _ _ (λ e. omega arith) (length-exactly (length memory)) (more 7 _ _ _ _ (λ e. omega arith) (one-means core) no_more)
+  pub load_mean : MeanAll ((1, wrong_length (length memory)) ∷ (7, not (due_one core)) ∷ []) (load_numbers core memory)
+  load_mean = more 1 _ _ _ _ (λ e. omega arith) (length_exactly (length memory)) (more 7 _ _ _ _ (λ e. omega arith) (one_means core) no_more)
 
-  pub run-mean : (b : ℕ)
+  pub run_mean : (b : ℕ)
       → MeanAll
-      ((1, wrongLength (length memory))
-      ∷ (8, not (isGoing core.stop))
-      ∷ (7, not (dueInRange core))
-      ∷ (9, clockFull core.clock.0 b)
+      ((1, wrong_length (length memory))
+      ∷ (8, not (is_going core.stop))
+      ∷ (7, not (due_in_range core))
+      ∷ (9, clock_full core.clock.0 b)
       ∷ [])
-      (runNumbers b core memory)
-  run-mean b =
-      more 1 _ _ _ _ (λ e. omega arith) (length-exactly (length memory))
-      (more 8 _ _ _ _ (λ e. omega arith) (stop-means core.stop)
-      (more 7 _ _ _ _ (λ e. omega arith) (range-means core)
-      (more 9 _ _ _ _ (λ e. omega arith) (clock-means core.clock.0 b) no_more)))
+      (run_numbers b core memory)
+  run_mean b =
+      more 1 _ _ _ _ (λ e. omega arith) (length_exactly (length memory))
+      (more 8 _ _ _ _ (λ e. omega arith) (stop_means core.stop)
+      (more 7 _ _ _ _ (λ e. omega arith) (range_means core)
+      (more 9 _ _ _ _ (λ e. omega arith) (clock_means core.clock.0 b) no_more)))
 
-  pub step-mean : MeanAll
-      ((1, wrongLength (length memory))
-      ∷ (8, not (isGoing core.stop))
-      ∷ (7, not (dueOne core))
-      ∷ (9, clockFull core.clock.0 4)
+  pub step_mean : MeanAll
+      ((1, wrong_length (length memory))
+      ∷ (8, not (is_going core.stop))
+      ∷ (7, not (due_one core))
+      ∷ (9, clock_full core.clock.0 4)
       ∷ [])
-      (stepNumbers core memory)
-  step-mean =
-      more 1 _ _ _ _ (λ e. omega arith) (length-exactly (length memory))
-      (more 8 _ _ _ _ (λ e. omega arith) (stop-means core.stop)
-      (more 7 _ _ _ _ (λ e. omega arith) (one-means core)
-      (more 9 _ _ _ _ (λ e. omega arith) (clock-means core.clock.0 4) no_more)))
+      (step_numbers core memory)
+  step_mean =
+      more 1 _ _ _ _ (λ e. omega arith) (length_exactly (length memory))
+      (more 8 _ _ _ _ (λ e. omega arith) (stop_means core.stop)
+      (more 7 _ _ _ _ (λ e. omega arith) (one_means core)
+      (more 9 _ _ _ _ (λ e. omega arith) (clock_means core.clock.0 4) no_more)))
 
-  pub view-mean : MeanAll ((7, not (dueOne core)) ∷ []) (viewNumbers core)
-  view-mean = more 7 _ _ _ _ (λ e. omega arith) (one-means core) no_more
+  pub view_mean : MeanAll ((7, not (due_one core)) ∷ []) (view_numbers core)
+  view_mean = more 7 _ _ _ _ (λ e. omega arith) (one_means core) no_more
 
-pub numbers-exactly : NumbersExactly
-unfolding loadNumber runNumber stepNumber viewNumber load run step view reset
-numbers-exactly core memory n b text = (
-  both (refusal n _ core memory _ (load-never n (listingAnswer text (length memory)))) (first-exactly _ _ (load-mean core memory) n),
-  both (refusal n _ core memory _ (ran-never n _ _ _)) (first-exactly _ _ (run-mean core memory b) n),
-  both (refusal n _ core memory _ (ran-never n _ _ _)) (first-exactly _ _ (step-mean core memory) n),
-  both (refusal n _ core memory _ (viewed-never n _ _ _)) (first-exactly _ _ (view-mean core memory) n),
+pub numbers_exactly : NumbersExactly
+unfolding load_number run_number step_number view_number load run step view reset
+numbers_exactly core memory n b text = (
+  both (refusal n _ core memory _ (load_never n (listing_answer text (length memory)))) (first_exactly _ _ (load_mean core memory) n),
+  both (refusal n _ core memory _ (ran_never n _ _ _)) (first_exactly _ _ (run_mean core memory b) n),
+  both (refusal n _ core memory _ (ran_never n _ _ _)) (first_exactly _ _ (step_mean core memory) n),
+  both (refusal n _ core memory _ (viewed_never n _ _ _)) (first_exactly _ _ (view_mean core memory) n),
   λ e. let z : ◌≡◌ {A = ℕ} 0 1 = cc in omega arith,
 )
 
 -- a load whose lines are refused
-lines-refused : (n offset : ℕ) (answer : listing.Answer) → loadAnswer answer ≡ refusedAt n offset → answer ≡ listing.refused n offset
-lines-refused n offset (listing.stored count) e = absurd (let z : ◌≡◌ {A = ℕ} 0 1 = cc in omega arith)
-lines-refused n offset (listing.refused number start) e =
+lines_refused : (n offset : ℕ) (answer : listing.Answer) → load_answer answer ≡ refused_at n offset → answer ≡ listing.refused n offset
+lines_refused n offset (listing.stored count) e = absurd (let z : ◌≡◌ {A = ℕ} 0 1 = cc in omega arith)
+lines_refused n offset (listing.refused number start) e =
     let same : number ≡ n = cc in
     let place : start ≡ offset = cc in
     λ j. listing.refused (same j) (place j)
 
-load-unchanged : (core : Core) (memory : List ℕ) (n offset : ℕ) (text : List ℕ) (number : ℕ)
-    → (unless number core memory (loadedReply text core memory)).answer ≡ refusedAt n offset
-    → ((unless number core memory (loadedReply text core memory)).core ≡ core)
-    × ((unless number core memory (loadedReply text core memory)).memory ≡ memory)
-load-unchanged core memory n offset text number = by (eqb number 0) refl
+load_unchanged : (core : Core) (memory : List ℕ) (n offset : ℕ) (text : List ℕ) (number : ℕ)
+    → (unless number core memory (loaded_reply text core memory)).answer ≡ refused_at n offset
+    → ((unless number core memory (loaded_reply text core memory)).core ≡ core)
+    × ((unless number core memory (loaded_reply text core memory)).memory ≡ memory)
+load_unchanged core memory n offset text number = by (eqb number 0) refl
   where
     by : (b : Bool) → eqb number 0 ≡ b
-        → (unless number core memory (loadedReply text core memory)).answer ≡ refusedAt n offset
-        → ((unless number core memory (loadedReply text core memory)).core ≡ core)
-        × ((unless number core memory (loadedReply text core memory)).memory ≡ memory)
+        → (unless number core memory (loaded_reply text core memory)).answer ≡ refused_at n offset
+        → ((unless number core memory (loaded_reply text core memory)).core ≡ core)
+        × ((unless number core memory (loaded_reply text core memory)).memory ≡ memory)
     by true h =
-        rw h (λ e. (refl, listing-unchanged text memory n offset (lines-refused n offset (listingAnswer text (length memory)) e)))
+        rw h (λ e. (refl, listing-unchanged text memory n offset (lines_refused n offset (listing_answer text (length memory)) e)))
     by false h = rw h (λ e. absurd (let z : ◌≡◌ {A = ℕ} 0 1 = cc in omega arith))
 
-pub refusals-unchanged : RefusalsUnchanged
+pub refusals_unchanged : RefusalsUnchanged
 unfolding load run step view
-refusals-unchanged core memory n offset b text = (
-  unchanged n (loadNumber (length memory) (dueOne core)) core memory (loadedReply text core memory)
-      (load-never n (listingAnswer text (length memory))),
-  load-unchanged core memory n offset text (loadNumber (length memory) (dueOne core)),
-  unchanged n (runNumber (length memory) core.stop (dueInRange core) core.clock.0 b) core memory
-      (ranReply (cyclesOn b (starting core memory))) (ran-never n _ _ _),
-  unchanged n (stepNumber (length memory) core.stop (dueOne core) core.clock.0) core memory
-      (steppedReply (takes memory (visibleOf core)) (stepTransition memory core) memory) (ran-never n _ _ _),
-  unchanged n (viewNumber (dueOne core)) core memory (viewedReply core memory) (viewed-never n _ _ _),
+refusals_unchanged core memory n offset b text = (
+  unchanged n (load_number (length memory) (due_one core)) core memory (loaded_reply text core memory)
+      (load_never n (listing_answer text (length memory))),
+  load_unchanged core memory n offset text (load_number (length memory) (due_one core)),
+  unchanged n (run_number (length memory) core.stop (due_in_range core) core.clock.0 b) core memory
+      (ran_reply (cycles_on b (starting core memory))) (ran_never n _ _ _),
+  unchanged n (step_number (length memory) core.stop (due_one core) core.clock.0) core memory
+      (stepped_reply (takes memory (visible_of core)) (step_transition memory core) memory) (ran_never n _ _ _),
+  unchanged n (view_number (due_one core)) core memory (viewed_reply core memory) (viewed_never n _ _ _),
 )

@@ -8,71 +8,71 @@ use native.Mathlib.Omega.{arith}
 use lib.Dec.{lit≤}
 use lib.ListN.{length, length-set}
 use Rattle.words.specs.Arithmetic.{bit}
-use Rattle.refusals.specs.Refusals.{refusalNumber, firstNumber}
+use Rattle.refusals.specs.Refusals.{refusal_number, first_number}
 use Rattle.refusals.specs.declared.Refusal.{Refusal}
-use Rattle.refusals.proofs.First.{passed, none_left, none-applies, has-number}
+use Rattle.refusals.proofs.First.{passed, none_left, none_applies, has_number}
 use Rattle.effects.specs.Effect.{applied}
 use Rattle.effects.specs.declared.Store.{Store}
 use Rattle.effects.specs.declared.Store.TheVariants.{Nothing, Word}
-use Rattle.r8_core.specs.Cores.{visibleOf}
-use Rattle.r8_core.specs.Instruction.{takes, stepTransition}
-use Rattle.r8_core.specs.Spent.{dueOne, dueInRange}
-use Rattle.r8_core.specs.Numbers.{runNumber, stepNumber, viewNumber}
-use Rattle.r8_core.specs.Progress.{Progress, starting, cyclesOn}
-use Rattle.r8_core.specs.Calls.{refused, Reply, unless, ranReply, steppedReply, viewedReply, run, step, view}
+use Rattle.r8_core.specs.Cores.{visible_of}
+use Rattle.r8_core.specs.Instruction.{takes, step_transition}
+use Rattle.r8_core.specs.Spent.{due_one, due_in_range}
+use Rattle.r8_core.specs.Numbers.{run_number, step_number, view_number}
+use Rattle.r8_core.specs.Progress.{Progress, starting, cycles_on}
+use Rattle.r8_core.specs.Calls.{refused, Reply, unless, ran_reply, stepped_reply, viewed_reply, run, step, view}
 use Rattle.r8_core.specs.declared.Core.{Core}
-use Rattle.r8_core.proofs.Cycles.{no-cycle}
-use Rattle.r8_core.proofs.Taken.{reply-own}
+use Rattle.r8_core.proofs.Cycles.{no_cycle}
+use Rattle.r8_core.proofs.Taken.{reply_own}
 
 -- a number makes a refusal of a reply, and 0 leaves it
-pub refused-reply : (number : ℕ) (why : Refusal) (core : Core) (memory : List ℕ) (reply : Reply) → refusalNumber why ≡ number
-    → record { answer = refused (refusalNumber why); core = core; memory = memory } ≡ unless number core memory reply
-refused-reply number why core memory reply e =
-    let nonzero = ne_eqb (refusalNumber why) 0 (has-number why) in
-    sym (ap (λ (zero : Bool). cond zero reply (record { answer = refused (refusalNumber why); core = core; memory = memory })) nonzero)
+pub refused_reply : (number : ℕ) (why : Refusal) (core : Core) (memory : List ℕ) (reply : Reply) → refusal_number why ≡ number
+    → record { answer = refused (refusal_number why); core = core; memory = memory } ≡ unless number core memory reply
+refused_reply number why core memory reply e =
+    let nonzero = ne_eqb (refusal_number why) 0 (has_number why) in
+    sym (ap (λ (zero : Bool). cond zero reply (record { answer = refused (refusal_number why); core = core; memory = memory })) nonzero)
     ∙ ap (λ (n : ℕ). unless n core memory reply) e
 
 -- where a run or a step starts: with its numbers passed the reply is the call's own
-pub run-starts : (b : ℕ) (core : Core) (memory : List ℕ)
-    → runNumber (length memory) core.stop (dueInRange core) core.clock.0 b ≡ 0
-    → run b core memory ≡ ranReply (cyclesOn (b - 0) (starting core memory))
+pub run_starts : (b : ℕ) (core : Core) (memory : List ℕ)
+    → run_number (length memory) core.stop (due_in_range core) core.clock.0 b ≡ 0
+    → run b core memory ≡ ran_reply (cycles_on (b - 0) (starting core memory))
 unfolding run
-run-starts b core memory e =
-    reply-own _ core memory (ranReply (cyclesOn b (starting core memory))) e
-    ∙ ap (λ (n : ℕ). ranReply (cyclesOn n (starting core memory))) (omega arith)
+run_starts b core memory e =
+    reply_own _ core memory (ran_reply (cycles_on b (starting core memory))) e
+    ∙ ap (λ (n : ℕ). ran_reply (cycles_on n (starting core memory))) (omega arith)
 
-pub step-starts : (core : Core) (memory : List ℕ) → runNumber (length memory) core.stop (dueOne core) core.clock.0 4 ≡ 0
-    → step core memory ≡ steppedReply (takes memory (visibleOf core)) (stepTransition memory core) memory
-unfolding step stepNumber
-step-starts core memory e =
-    reply-own _ core memory (steppedReply (takes memory (visibleOf core)) (stepTransition memory core) memory) e
+pub step_starts : (core : Core) (memory : List ℕ) → run_number (length memory) core.stop (due_one core) core.clock.0 4 ≡ 0
+    → step core memory ≡ stepped_reply (takes memory (visible_of core)) (step_transition memory core) memory
+unfolding step step_number
+step_starts core memory e =
+    reply_own _ core memory (stepped_reply (takes memory (visible_of core)) (step_transition memory core) memory) e
 
 -- a run that has done its cycles
-pub run-over : (b : ℕ) (p : Progress) → b ≤ p.used → cyclesOn (b - p.used) p ≡ p
-run-over b p e = ap (λ (n : ℕ). cyclesOn n p) (omega arith) ∙ no-cycle p
+pub run_over : (b : ℕ) (p : Progress) → b ≤ p.used → cycles_on (b - p.used) p ≡ p
+run_over b p e = ap (λ (n : ℕ). cycles_on n p) (omega arith) ∙ no_cycle p
 
 -- a count grows by 1 at most, and a store keeps the memory's length
-pub bit-small : (b : Bool) → bit b ≤ 1
-bit-small true = lit≤ tt
-bit-small false = lit≤ tt
+pub bit_small : (b : Bool) → bit b ≤ 1
+bit_small true = lit≤ tt
+bit_small false = lit≤ tt
 
-pub applied-length : (store : Store) (memory : List ℕ) → length (applied store memory) ≡ length memory
-applied-length Nothing memory = refl
-applied-length (Word address word) memory = length-set memory address word
+pub applied_length : (store : Store) (memory : List ℕ) → length (applied store memory) ≡ length memory
+applied_length Nothing memory = refl
+applied_length (Word address word) memory = length-set memory address word
 
 -- what a view's number says of the cycle due
-pub one-when : (one : Bool) → viewNumber one ≡ 0 → one ≡ true
-unfolding viewNumber
-one-when one e = not-false one (none-applies 6 (not one) _ e).0
+pub one_when : (one : Bool) → view_number one ≡ 0 → one ≡ true
+unfolding view_number
+one_when one e = not-false one (none_applies 6 (not one) _ e).0
 
-pub other-when : (one : Bool) (why : Refusal) → refusalNumber why ≡ viewNumber one → one ≡ false
-unfolding viewNumber firstNumber
-other-when false why e = refl
-other-when true why e = absurd (has-number why e)
+pub other_when : (one : Bool) (why : Refusal) → refusal_number why ≡ view_number one → one ≡ false
+unfolding view_number first_number
+other_when false why e = refl
+other_when true why e = absurd (has_number why e)
 
 -- a view that is taken
-pub view-taken : (core : Core) → dueOne core ≡ true → viewedReply core ≡ view core
-unfolding view viewNumber
-view-taken core one =
-    let number = passed 7 (not (dueOne core)) [] (ap not one) ∙ none_left in
-    λ j memory. unless (sym number j) core memory (viewedReply core memory)
+pub view_taken : (core : Core) → due_one core ≡ true → viewed_reply core ≡ view core
+unfolding view view_number
+view_taken core one =
+    let number = passed 7 (not (due_one core)) [] (ap not one) ∙ none_left in
+    λ j memory. unless (sym number j) core memory (viewed_reply core memory)

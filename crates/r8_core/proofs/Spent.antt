@@ -5,12 +5,12 @@ use Prim.Native.Nat.{ℕ, zero, suc, ◌+◌, ◌-◌, ◌≤◌}
 use native.Mathlib.Omega.{arith}
 use borrow.Author.Tests.{leb-true, le-leb, lt-leb, eqb-true, eq-eqb, ne_eqb}
 use lib.Dec.{eqb, leb}
-use Rattle.r8_core.specs.Spent.{spentOf, dueInRange, dueOne}
+use Rattle.r8_core.specs.Spent.{spent_of, due_in_range, due_one}
 use Rattle.r8_core.specs.declared.Core.{Core}
 
 -- that none is spent says that cycle 1 is due
-pub one-due : (core : Core) → dueOne core ≡ eqb core.due 1
-one-due core = by core.due
+pub one_due_lem : (core : Core) → due_one core ≡ eqb core.due 1
+one_due_lem core = by core.due
   where
     by : (due : ℕ) → cond (cond (leb 1 due) (leb due 4) false) (eqb (due - 1) 0) false ≡ eqb due 1
     by zero = refl
@@ -22,11 +22,11 @@ one-due core = by core.due
         rw (le-leb 1 (suc (suc (suc (suc (suc n))))) (omega arith), lt-leb (suc (suc (suc (suc (suc n))))) 4 (omega arith))
         (sym (ne_eqb (suc (suc (suc (suc (suc n))))) 1 (λ e. omega arith)))
 
-pub due-when-one : (core : Core) → dueOne core ≡ true → core.due ≡ 1
-due-when-one core e = eqb-true core.due 1 (sym (one-due core) ∙ e)
+pub due_when_one : (core : Core) → due_one core ≡ true → core.due ≡ 1
+due_when_one core e = eqb-true core.due 1 (sym (one_due_lem core) ∙ e)
 
-pub one-when-due : (core : Core) → core.due ≡ 1 → dueOne core ≡ true
-one-when-due core e = one-due core ∙ eq-eqb core.due 1 e
+pub one_when_due : (core : Core) → core.due ≡ 1 → due_one core ≡ true
+one_when_due core e = one_due_lem core ∙ eq-eqb core.due 1 e
 
 -- two tests that both hold
 pub both : (p q : Bool) → cond p q false ≡ true → (p ≡ true) × (q ≡ true)
@@ -35,22 +35,22 @@ both true false e = absurd (let z : ◌≡◌ {A = ℕ} 0 1 = cc in omega arith)
 both false q e = absurd (let z : ◌≡◌ {A = ℕ} 0 1 = cc in omega arith)
 
 -- one of 1 to 4
-pub due-when : (core : Core) → dueInRange core ≡ true → (1 ≤ core.due) × (core.due ≤ 4)
-due-when core e =
+pub due_when : (core : Core) → due_in_range core ≡ true → (1 ≤ core.due) × (core.due ≤ 4)
+due_when core e =
     let r = both (leb 1 core.due) (leb core.due 4) e in
     (leb-true 1 core.due r.0, leb-true core.due 4 r.1)
 
-pub due-of-spent : (core : Core) → dueInRange core ≡ true → core.due ≡ spentOf core + 1
-due-of-spent core e = let low = (due-when core e).0 in omega arith
+pub due_of_spent : (core : Core) → due_in_range core ≡ true → core.due ≡ spent_of core + 1
+due_of_spent core e = let low = (due_when core e).0 in omega arith
 
-pub range-when : (core : Core) → 1 ≤ core.due → core.due ≤ 4 → dueInRange core ≡ true
-range-when core low high =
+pub range_when : (core : Core) → 1 ≤ core.due → core.due ≤ 4 → due_in_range core ≡ true
+range_when core low high =
     let l = le-leb 1 core.due low in
     let h = le-leb core.due 4 high in
     λ j. cond (l j) (h j) false
 
-pub none-spent : (core : Core) → dueOne core ≡ true → spentOf core ≡ 0
-none-spent core e = eqb-true (spentOf core) 0 (both (dueInRange core) (eqb (spentOf core) 0) e).1
+pub none_spent_lem : (core : Core) → due_one core ≡ true → spent_of core ≡ 0
+none_spent_lem core e = eqb-true (spent_of core) 0 (both (due_in_range core) (eqb (spent_of core) 0) e).1
 
-pub range-when-one : (core : Core) → dueOne core ≡ true → dueInRange core ≡ true
-range-when-one core e = (both (dueInRange core) (eqb (spentOf core) 0) e).0
+pub range_when_one : (core : Core) → due_one core ≡ true → due_in_range core ≡ true
+range_when_one core e = (both (due_in_range core) (eqb (spent_of core) 0) e).0

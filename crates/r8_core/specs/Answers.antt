@@ -1,9 +1,9 @@
 -- What the code of the calls gives back, read as the answers and replies of Calls: document 01's number and values for each case.
 use Rattle.std.specs.Prelude.{List, ℕ}
-use Rattle.refusals.specs.Refusals.{refusalNumber}
-use Rattle.listing.specs.Answers.{faultNumber}
+use Rattle.refusals.specs.Refusals.{refusal_number}
+use Rattle.listing.specs.Answers.{fault_number}
 use Rattle.r8_core.specs.Cores.{visible}
-use Rattle.r8_core.specs.Calls.{Answer, done, stored, ran, viewed, refused, refusedAt, Reply}
+use Rattle.r8_core.specs.Calls.{Answer, done, stored, ran, viewed, refused, refused_at, Reply}
 use Rattle.r8_core.specs.declared.Core.{Core}
 use Rattle.r8_core.specs.declared.LoadAnswer.{LoadAnswer}
 use Rattle.r8_core.specs.declared.LoadAnswer.TheVariants as loading
@@ -17,19 +17,19 @@ use Rattle.r8_core.specs.declared.ViewReply.{ViewReply}
 use Rattle.r8_core.specs.declared.Snapshot.{Snapshot}
 
 -- the answers
-abbrev pub loadAnswerOf : LoadAnswer → Answer
-loadAnswerOf (loading.Stored count) = stored count
-loadAnswerOf (loading.Refused why) = refused (refusalNumber why)
-loadAnswerOf (loading.Faulty fault offset) = refusedAt (faultNumber fault) offset
+abbrev pub load_answer_of : LoadAnswer → Answer
+load_answer_of (loading.Stored count) = stored count
+load_answer_of (loading.Refused why) = refused (refusal_number why)
+load_answer_of (loading.Faulty fault offset) = refused_at (fault_number fault) offset
 
-abbrev pub runAnswerOf : RunAnswer → Answer
-runAnswerOf (running.Ran cycles instructions end) = ran cycles.0 instructions.0 end
-runAnswerOf (running.Refused why) = refused (refusalNumber why)
+abbrev pub run_answer_of : RunAnswer → Answer
+run_answer_of (running.Ran cycles instructions end) = ran cycles.0 instructions.0 end
+run_answer_of (running.Refused why) = refused (refusal_number why)
 
-abbrev pub viewAnswerOf : ViewAnswer → Snapshot → Answer
-viewAnswerOf viewing.Viewed s =
+abbrev pub view_answer_of : ViewAnswer → Snapshot → Answer
+view_answer_of viewing.Viewed s =
     viewed (visible s.regs s.pc s.sp s.flags s.stop) s.due s.clock.0
-viewAnswerOf (viewing.Refused why) s = refused (refusalNumber why)
+view_answer_of (viewing.Refused why) s = refused (refusal_number why)
 
 -- what view shows of a core: all but the hidden registers
 abbrev pub shown : Core → Snapshot
@@ -46,14 +46,14 @@ shown core =
 
 -- what each call gave back, with the memory as it then is. Reset and view are lent none and cannot change it: theirs are functions of the
 -- memory there is, and hand it on
-abbrev pub resetGave : Core → List ℕ → Reply
-resetGave core memory = record { answer = done; core = core; memory = memory }
+abbrev pub reset_gave : Core → List ℕ → Reply
+reset_gave core memory = record { answer = done; core = core; memory = memory }
 
-abbrev pub loadGave : LoadReply → List ℕ → Reply
-loadGave r memory = record { answer = loadAnswerOf r.answer; core = r.core; memory = memory }
+abbrev pub load_gave : LoadReply → List ℕ → Reply
+load_gave r memory = record { answer = load_answer_of r.answer; core = r.core; memory = memory }
 
-abbrev pub runGave : RunReply → List ℕ → Reply
-runGave r memory = record { answer = runAnswerOf r.answer; core = r.core; memory = memory }
+abbrev pub run_gave : RunReply → List ℕ → Reply
+run_gave r memory = record { answer = run_answer_of r.answer; core = r.core; memory = memory }
 
-abbrev pub viewGave : ViewReply → List ℕ → Reply
-viewGave r memory = record { answer = viewAnswerOf r.answer r.snapshot; core = r.core; memory = memory }
+abbrev pub view_gave : ViewReply → List ℕ → Reply
+view_gave r memory = record { answer = view_answer_of r.answer r.snapshot; core = r.core; memory = memory }

@@ -5,13 +5,13 @@ use Rattle.std.specs.Prelude.{Bool, false, cond, ℕ, ◌-◌, eqb, leb}
 use Rattle.r8_core.specs.declared.Core.{Core}
 
 -- the cycles that are spent in an unfinished instruction
-abbrev pub spentOf : Core → ℕ
-spentOf core = core.due - 1
+abbrev pub spent_of : Core → ℕ
+spent_of core = core.due - 1
 
 -- is the cycle due one of 1 to 4
-abbrev pub dueInRange : Core → Bool
-dueInRange core = cond (leb 1 core.due) (leb core.due 4) false
+abbrev pub due_in_range : Core → Bool
+due_in_range core = cond (leb 1 core.due) (leb core.due 4) false
 
 -- 'cycle 1 is due when s is 0'
-abbrev pub dueOne : Core → Bool
-dueOne core = cond (dueInRange core) (eqb (spentOf core) 0) false
+abbrev pub due_one : Core → Bool
+due_one core = cond (due_in_range core) (eqb (spent_of core) 0) false

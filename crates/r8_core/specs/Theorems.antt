@@ -4,21 +4,21 @@
 use Rattle.std.specs.Prelude.{◌≡◌, ◌↔◌, Bool, true, false, List, ℕ, ◌+◌, ◌≤◌, ◌<◌, set, replicate}
 use Rattle.words.specs.Memory.{word_at}
 use Rattle.words.specs.Arithmetic.{sum}
-use Rattle.isa.specs.Cost.{costOf}
+use Rattle.isa.specs.Cost.{cost_of}
 use Rattle.table.specs.Table.{kind_of}
 use Rattle.isa.specs.declared.Flags.{Flags}
 use Rattle.alu.specs.declared.Outcome.{Outcome}
-use Rattle.effects.specs.Hidden.{withRalu}
+use Rattle.effects.specs.Hidden.{with_ralu}
 use Rattle.effects.specs.Cycles.{calculated}
 use Rattle.effects.specs.declared.Hidden.{Hidden}
 use Rattle.effects.specs.declared.Stop.{Stop}
 use Rattle.effects.specs.declared.Stop.TheVariants.{Going, Undefined}
 use Rattle.effects.specs.declared.Store.TheVariants.{Nothing}
-use Rattle.r8_core.specs.Cores.{freshCore, with_regs, withPc, withSp, with_flags, withHidden, withDue, stopped, withClock, visibleOf, register, raOf, rbOf, effectBefore}
-use Rattle.r8_core.specs.Spent.{spentOf, dueInRange, dueOne}
-use Rattle.r8_core.specs.Datapath.{dueCycle}
-use Rattle.r8_core.specs.Instruction.{past, takes, stepTransition}
-use Rattle.r8_core.specs.Progress.{Progress, starting, cyclesOn, instructionOn}
+use Rattle.r8_core.specs.Cores.{fresh_core, with_regs, with_pc, with_sp, with_flags, with_hidden, with_due, stopped, with_clock, visible_of, register, ra_of, rb_of, effect_before}
+use Rattle.r8_core.specs.Spent.{spent_of, due_in_range, due_one}
+use Rattle.r8_core.specs.Datapath.{due_cycle}
+use Rattle.r8_core.specs.Instruction.{past, takes, step_transition}
+use Rattle.r8_core.specs.Progress.{Progress, starting, cycles_on, instruction_on}
 use Rattle.r8_core.specs.declared.Core.{Core}
 
 -- a core with these parts
@@ -34,32 +34,32 @@ Has regs pc sp flags hidden due stop clock core =
     × (core.clock.0 ≡ clock)
 
 -- each setter of Cores sets its part and leaves all others, of every core: else a wrong one could stand on both sides of a statement (proved as
--- `core-parts`)
+-- `core_parts`)
 abbrev pub CoreParts : Type 0
 CoreParts =
     (regs : List ℕ) (n : ℕ) (flags : Flags) (hidden : Hidden) (stop : Stop) (c : Core)
     → Has regs c.pc c.sp c.flags c.hidden c.due c.stop c.clock.0 (with_regs regs c)
-    × Has c.regs n c.sp c.flags c.hidden c.due c.stop c.clock.0 (withPc n c)
-    × Has c.regs c.pc n c.flags c.hidden c.due c.stop c.clock.0 (withSp n c)
+    × Has c.regs n c.sp c.flags c.hidden c.due c.stop c.clock.0 (with_pc n c)
+    × Has c.regs c.pc n c.flags c.hidden c.due c.stop c.clock.0 (with_sp n c)
     × Has c.regs c.pc c.sp flags c.hidden c.due c.stop c.clock.0 (with_flags flags c)
-    × Has c.regs c.pc c.sp c.flags hidden c.due c.stop c.clock.0 (withHidden hidden c)
-    × Has c.regs c.pc c.sp c.flags c.hidden n c.stop c.clock.0 (withDue n c)
+    × Has c.regs c.pc c.sp c.flags hidden c.due c.stop c.clock.0 (with_hidden hidden c)
+    × Has c.regs c.pc c.sp c.flags c.hidden n c.stop c.clock.0 (with_due n c)
     × Has c.regs c.pc c.sp c.flags c.hidden c.due stop c.clock.0 (stopped stop c)
-    × Has c.regs c.pc c.sp c.flags c.hidden c.due c.stop n (withClock n c)
+    × Has c.regs c.pc c.sp c.flags c.hidden c.due c.stop n (with_clock n c)
 
--- 'cycles spent .., compared with the cycle due less one'; 'cycle 1 is due when s is 0' (proved as `spent-exactly`)
+-- 'cycles spent .., compared with the cycle due less one'; 'cycle 1 is due when s is 0' (proved as `spent_exactly`)
 abbrev pub SpentExactly : Type 0
 SpentExactly =
     (core : Core)
-    → ((dueInRange core ≡ true) ↔ ((1 ≤ core.due) × (core.due ≤ 4)))
-    × ((dueOne core ≡ true) ↔ (core.due ≡ 1))
-    × (dueInRange core ≡ true → core.due ≡ spentOf core + 1)
+    → ((due_in_range core ≡ true) ↔ ((1 ≤ core.due) × (core.due ≤ 4)))
+    × ((due_one core ≡ true) ↔ (core.due ≡ 1))
+    × (due_in_range core ≡ true → core.due ≡ spent_of core + 1)
 
 -- what cycle 3 gives of the instruction that starts at p, from IR, RA and RB as latched
-abbrev pub outcomeOf : Progress → Core → Outcome
-outcomeOf p core =
-    calculated (kind_of core.hidden.ir) (withRalu p.core.hidden.ralu core.hidden)
-    (effectBefore core.hidden.ir (past (visibleOf p.core)))
+abbrev pub outcome_of : Progress → Core → Outcome
+outcome_of p core =
+    calculated (kind_of core.hidden.ir) (with_ralu p.core.hidden.ralu core.hidden)
+    (effect_before core.hidden.ir (past (visible_of p.core)))
 
 -- q is i cycles into the instruction that starts at p: nothing is stored, finished or stopped; registers and SP are as they were, and
 -- so are the flags until cycle 3 is done; IR takes the word and PC moves one past it in cycle 1, RA and RB are latched in cycle 2, and RALU
@@ -67,8 +67,8 @@ outcomeOf p core =
 pub record Midway (i : ℕ) (p q : Progress) : Type 0 where
   pub memory : q.memory ≡ p.memory
   pub going : q.core.stop ≡ Going
-  pub due : dueInRange q.core ≡ true
-  pub spent : spentOf q.core ≡ i
+  pub due : due_in_range q.core ≡ true
+  pub spent : spent_of q.core ≡ i
   pub clock : q.core.clock.0 ≡ p.core.clock.0 + i
   pub used : q.used ≡ p.used + i
   pub finished : q.finished ≡ p.finished
@@ -78,42 +78,42 @@ pub record Midway (i : ℕ) (p q : Progress) : Type 0 where
   pub fetched : 1 ≤ i → (q.core.pc ≡ sum p.core.pc 1) × (q.core.hidden.ir ≡ word_at p.memory p.core.pc)
   pub latched :
       2 ≤ i
-      → (q.core.hidden.ra ≡ raOf q.core.hidden.ir p.core.regs)
-      × (q.core.hidden.rb ≡ rbOf (kind_of q.core.hidden.ir) q.core.hidden.ir p.core.regs)
+      → (q.core.hidden.ra ≡ ra_of q.core.hidden.ir p.core.regs)
+      × (q.core.hidden.rb ≡ rb_of (kind_of q.core.hidden.ir) q.core.hidden.ir p.core.regs)
   pub early : i ≤ 1 → (q.core.hidden.ra ≡ p.core.hidden.ra) × (q.core.hidden.rb ≡ p.core.hidden.rb)
   pub idle : i ≤ 2 → q.core.hidden.ralu ≡ p.core.hidden.ralu
-  pub calculated : 3 ≤ i → (q.core.hidden.ralu ≡ (outcomeOf p q.core).value) × (q.core.flags ≡ (outcomeOf p q.core).flags)
+  pub calculated : 3 ≤ i → (q.core.hidden.ralu ≡ (outcome_of p q.core).value) × (q.core.flags ≡ (outcome_of p q.core).flags)
 
 -- from every going core with cycle 1 due, as many cycles as the instruction at PC costs give exactly the core that it leaves (what the table
 -- says, and the hidden registers), with its store made and one instruction more finished; fewer leave it midway (proved as
--- `one-instruction`)
+-- `one_instruction`)
 abbrev pub OneInstruction : Type 0
 OneInstruction =
-    (p : Progress) → p.core.stop ≡ Going → dueOne p.core ≡ true
-    → ((i : ℕ) → i < takes p.memory (visibleOf p.core) → Midway i p (cyclesOn i p))
-    × (cyclesOn (takes p.memory (visibleOf p.core)) p ≡ instructionOn p)
+    (p : Progress) → p.core.stop ≡ Going → due_one p.core ≡ true
+    → ((i : ℕ) → i < takes p.memory (visible_of p.core) → Midway i p (cycles_on i p))
+    × (cycles_on (takes p.memory (visible_of p.core)) p ≡ instruction_on p)
 
 -- 'A core that no call made may have, in cycle 3 or 4, an IR word whose listed cost under its flags is below the cycle due. That cycle
 -- finishes the instruction and changes nothing else but the clock': cycle 1 is due, as after every last cycle (proved as
--- `foreign-core`)
+-- `foreign_core`)
 abbrev pub ForeignCore : Type 0
 ForeignCore =
-    (memory : List ℕ) (core : Core) → 3 ≤ core.due → core.due ≤ 4 → costOf (kind_of core.hidden.ir) core.flags < core.due
-    → dueCycle memory core
-    ≡ record { core = withClock (core.clock.0 + 1) (withDue 1 core); finished = true; store = Nothing }
+    (memory : List ℕ) (core : Core) → 3 ≤ core.due → core.due ≤ 4 → cost_of (kind_of core.hidden.ir) core.flags < core.due
+    → due_cycle memory core
+    ≡ record { core = with_clock (core.clock.0 + 1) (with_due 1 core); finished = true; store = Nothing }
 
 -- The bench: a core with p in R1, q in R2, PC at the word and zero elsewhere; the word is the last of a memory of zeros
-abbrev pub benchCore : ℕ → ℕ → ℕ → Core
-benchCore p q pc = withPc pc (with_regs (set (set (replicate 16 0) 1 p) 2 q) freshCore)
+abbrev pub bench_core : ℕ → ℕ → ℕ → Core
+bench_core p q pc = with_pc pc (with_regs (set (set (replicate 16 0) 1 p) 2 q) fresh_core)
 
-abbrev pub benchMemory : ℕ → ℕ → List ℕ
-benchMemory word pc = set (replicate (pc + 1) 0) pc word
+abbrev pub bench_memory : ℕ → ℕ → List ℕ
+bench_memory word pc = set (replicate (pc + 1) 0) pc word
 
 -- what a word does there, by four cycles of the datapath (fewer if the core stops) and by the instruction engine alike
 abbrev pub Does : ℕ → ℕ → ℕ → ℕ → (Core → Type 0) → Type 0
 Does word p q pc Claim =
-    Claim (cyclesOn 4 (starting (benchCore p q pc) (benchMemory word pc))).core
-    × Claim (stepTransition (benchMemory word pc) (benchCore p q pc)).core
+    Claim (cycles_on 4 (starting (bench_core p q pc) (bench_memory word pc))).core
+    × Claim (step_transition (bench_memory word pc) (bench_core p q pc)).core
 
 -- with the word at 0000; and where a jump or call at `pc` goes
 abbrev pub Gives : ℕ → ℕ → ℕ → (Core → Type 0) → Type 0

@@ -3,21 +3,21 @@
 // and changes nothing. In a contract `self` is the core as it was handed in, whatever becomes of it.
 ghost use Rattle.std.specs.Prelude.{◌≡◌, true, false, cond, ◌+◌, ◌≤◌, ◌<◌, ltb, set};
 ghost use Rattle.words.specs.Arithmetic.{bit};
-ghost use Rattle.refusals.specs.Refusals.{refusalNumber};
-ghost use Rattle.refusals.specs.Verdicts.{verdictNumber};
-ghost use Rattle.listing.specs.Answers.{storeAnswer};
+ghost use Rattle.refusals.specs.Refusals.{refusal_number};
+ghost use Rattle.refusals.specs.Verdicts.{verdict_number};
+ghost use Rattle.listing.specs.Answers.{store_answer};
 ghost use Rattle.effects.specs.Effect.{applied};
-ghost use Rattle.effects.specs.Hidden.{noHidden};
-ghost use Rattle.effects.specs.Cycles.{stopOf};
-ghost use Rattle.r8_core.specs.Cores.{freshCore, withHidden, stopped, visibleOf, register, effectBefore};
-ghost use Rattle.r8_core.specs.Spent.{spentOf, dueInRange, dueOne};
-ghost use Rattle.r8_core.specs.Datapath.{fetched, latched, second, withResult, third, withEffect, dueAfter, ticked, transition, idle, isLast, laterCycle, dueCycle, cycleOrIdle};
-ghost use Rattle.r8_core.specs.Instruction.{memoryAfter};
-ghost use Rattle.r8_core.specs.WholeInstructions.{workingFrom, seen, joined, effectBeforeOf, executedOf, workingAfter, workingOn, bankOn, hasRoom, instructionsOn, instructionsOrCycle, reached};
-ghost use Rattle.r8_core.specs.Numbers.{isGoing, longest, clockFull, viewNumber, loadNumber, runNumber};
-ghost use Rattle.r8_core.specs.Progress.{starting, cycleOn};
-ghost use Rattle.r8_core.specs.Calls.{ran, refused, loadAnswer, goingEnd, end_of, reset, load, run, step, view};
-ghost use Rattle.r8_core.specs.Answers.{loadAnswerOf, runAnswerOf, shown, resetGave, loadGave, runGave, viewGave};
+ghost use Rattle.effects.specs.Hidden.{no_hidden};
+ghost use Rattle.effects.specs.Cycles.{stop_of};
+ghost use Rattle.r8_core.specs.Cores.{fresh_core, with_hidden, stopped, visible_of, register, effect_before};
+ghost use Rattle.r8_core.specs.Spent.{spent_of, due_in_range, due_one};
+ghost use Rattle.r8_core.specs.Datapath.{fetched, latched, second, with_result, third, with_effect, due_after, ticked, transition, idle, is_last, later_cycle, due_cycle, cycle_or_idle};
+ghost use Rattle.r8_core.specs.Instruction.{memory_after};
+ghost use Rattle.r8_core.specs.WholeInstructions.{working_from, seen, joined, effect_before_of, executed_of, working_after, working_on, bank_on, has_room, instructions_on, instructions_or_cycle, reached};
+ghost use Rattle.r8_core.specs.Numbers.{is_going, longest, clock_full, view_number, load_number, run_number};
+ghost use Rattle.r8_core.specs.Progress.{starting, cycle_on};
+ghost use Rattle.r8_core.specs.Calls.{ran, refused, load_answer, going_end, end_of, reset, load, run, step, view};
+ghost use Rattle.r8_core.specs.Answers.{load_answer_of, run_answer_of, shown, reset_gave, load_gave, run_gave, view_gave};
 
 use alu::Outcome;
 use effects::{Effect, Executed, Hidden, Stop, Store};
@@ -145,7 +145,7 @@ pub struct ViewReply {
 
 // A fresh core: zero everywhere, going, with cycle 1 due.
 pub fn fresh() -> Core
-    ensures { result ≡ freshCore }
+    ensures { result ≡ fresh_core }
 {
     Core {
         regs: [0u16; 16],
@@ -165,7 +165,7 @@ pub fn fresh() -> Core
 }
 
 fn no_hidden() -> Hidden
-    ensures { result ≡ noHidden }
+    ensures { result ≡ no_hidden }
 {
     Hidden {
         ir: 0,
@@ -192,13 +192,13 @@ fn set_register(regs: &mut [u16], i: u8, value: u16)
 
 fn due_after(finished: bool, due: u8) -> u8
     requires { due ≤ 4 }
-    ensures { result ≡ dueAfter finished due }
+    ensures { result ≡ due_after finished due }
 {
     if finished { 1 } else { due + 1 }
 }
 
 fn is_going(stop: Stop) -> bool
-    ensures { result ≡ isGoing stop }
+    ensures { result ≡ is_going stop }
 {
     match stop {
         Stop::Going => true,
@@ -208,21 +208,21 @@ fn is_going(stop: Stop) -> bool
 }
 
 fn clock_full(clock: Cycles, b: u32) -> bool
-    ensures { result ≡ clockFull clock.0 b }
+    ensures { result ≡ clock_full clock.0 b }
 {
     4294967295 < clock.0 as u64 + b as u64
 }
 
 // The number of a view: 7.
 fn view_verdict(ready: bool) -> Verdict
-    ensures { verdictNumber result ≡ viewNumber ready }
+    ensures { verdict_number result ≡ view_number ready }
 {
     Verdict::Taken.or(Refusal::WrongCycle, !ready)
 }
 
 // The numbers of a load before its lines: 1, 7.
 fn load_verdict(words: usize, ready: bool) -> Verdict
-    ensures { verdictNumber result ≡ loadNumber words ready }
+    ensures { verdict_number result ≡ load_number words ready }
 {
     Verdict::Taken
         .or(Refusal::WrongLength, refusals::wrong_length(words))
@@ -231,7 +231,7 @@ fn load_verdict(words: usize, ready: bool) -> Verdict
 
 // The numbers of a run, and of a step with 4 for b: 1, 8, 7, 9.
 fn run_verdict(length: usize, stop: Stop, ready: bool, clock: Cycles, b: u32) -> Verdict
-    ensures { verdictNumber result ≡ runNumber length stop ready clock.0 b }
+    ensures { verdict_number result ≡ run_number length stop ready clock.0 b }
 {
     Verdict::Taken
         .or(Refusal::WrongLength, refusals::wrong_length(length))
@@ -241,7 +241,7 @@ fn run_verdict(length: usize, stop: Stop, ready: bool, clock: Cycles, b: u32) ->
 }
 
 fn load_answer(answer: StoreAnswer) -> LoadAnswer
-    ensures { loadAnswerOf result ≡ loadAnswer (storeAnswer answer) }
+    ensures { load_answer_of result ≡ load_answer (store_answer answer) }
 {
     match answer {
         StoreAnswer::Stored(count) => LoadAnswer::Stored(count),
@@ -261,7 +261,7 @@ fn end_of(stop: Stop, first: bool) -> End
 }
 
 fn going_end(first: bool) -> End
-    ensures { result ≡ goingEnd first }
+    ensures { result ≡ going_end first }
 {
     if first { End::B } else { End::M }
 }
@@ -284,7 +284,7 @@ fn apply(store: Store, memory: &mut [u16])
 
 // Is the core going, is there room for an instruction, whatever it takes, and is one more asked?
 fn may_go_on(state: Working, more: u32) -> bool
-    ensures { result ≡ cond (hasRoom state.stop state.left.0) (ltb 0 more) false }
+    ensures { result ≡ cond (has_room state.stop state.left.0) (ltb 0 more) false }
 {
     let stop = state.stop;
     if is_going(stop) {
@@ -298,7 +298,7 @@ fn may_go_on(state: Working, more: u32) -> bool
 impl Working {
     // What an instruction can change, as it is with PC one past it.
     fn before(self, rt: u16) -> Effect
-        ensures { result ≡ effectBeforeOf self rt }
+        ensures { result ≡ effect_before_of self rt }
     {
         let flags = self.flags;
         let stop = self.stop;
@@ -314,7 +314,7 @@ impl Working {
 
     // The instruction `word` by the table, on the registers that it names.
     fn execute(self, kind: Kind, word: u16, regs: &[u16], memory: &[u16]) -> Executed
-        ensures { result ≡ executedOf kind word regs.now memory.now self }
+        ensures { result ≡ executed_of kind word regs.now memory.now self }
     {
         let ra = register_of(regs, isa::field_a(word));
         let rb = register_of(regs, isa::field_b(word));
@@ -327,7 +327,7 @@ impl Working {
     // hidden registers are written out here: a run takes longer where a callee makes them.
     fn after(self, kind: Kind, word: u16, regs: &[u16], done: Executed, cycles: Cycles) -> Working
         requires { cycles.0 ≤ self.left.0 }
-        ensures { result ≡ workingAfter kind word regs.now done cycles.0 self }
+        ensures { result ≡ working_after kind word regs.now done cycles.0 self }
     {
         let stop = effects::stop_of(kind);
         let ra = register_of(regs, isa::field_a(word));
@@ -355,7 +355,7 @@ impl Working {
     // The instruction engine: the instruction at PC, with the bank and the memory changed where they lie.
     fn instruct(self, regs: &mut [u16], memory: &mut [u16]) -> Working
         requires { longest ≤ self.left.0 }
-        ensures { (result ≡ workingOn memory.old regs.old self) × (regs.new ≡ bankOn memory.old regs.old self) × (memory.new ≡ memoryAfter memory.old (seen self regs.old)) }
+        ensures { (result ≡ working_on memory.old regs.old self) × (regs.new ≡ bank_on memory.old regs.old self) × (memory.new ≡ memory_after memory.old (seen self regs.old)) }
     {
         let word = words::read(memory, self.pc);
         let kind = table::kind_of(word);
@@ -419,7 +419,7 @@ impl Core {
     }
 
     fn with_result(mut self, outcome: Outcome) -> Core
-        ensures { result ≡ withResult outcome self }
+        ensures { result ≡ with_result outcome self }
     {
         let flags = outcome.flags;
         self.flags = flags;
@@ -429,7 +429,7 @@ impl Core {
 
     // Cycle 2: HALT and undefined words stop the core, all others have their registers latched.
     fn stop_or_latch(self, kind: Kind) -> Core
-        ensures { result ≡ second (stopOf kind) kind self }
+        ensures { result ≡ second (stop_of kind) kind self }
     {
         let stop = effects::stop_of(kind);
         match stop {
@@ -441,7 +441,7 @@ impl Core {
 
     // What the instruction in IR can change, as it is: Rt, PC, SP, flags and stop state, and nothing to store.
     fn effect_before(self) -> Effect
-        ensures { result ≡ effectBefore self.hidden.ir (visibleOf self) }
+        ensures { result ≡ effect_before self.hidden.ir (visible_of self) }
     {
         let regs = self.regs;
         let flags = self.flags;
@@ -467,7 +467,7 @@ impl Core {
 
     // An effect put into the core, all but its store.
     fn with_effect(mut self, effect: Effect) -> Core
-        ensures { result ≡ withEffect effect self }
+        ensures { result ≡ with_effect effect self }
     {
         let mut regs = self.regs;
         set_register(&mut regs, isa::field_t(self.hidden.ir), effect.rt);
@@ -482,7 +482,7 @@ impl Core {
 
     // Is the cycle due the last of the instruction in IR?
     fn is_last(self, kind: Kind) -> bool
-        ensures { result ≡ isLast kind self }
+        ensures { result ≡ is_last kind self }
     {
         let flags = self.flags;
         let cost = isa::cost(kind, flags);
@@ -514,7 +514,7 @@ impl Core {
     // One cycle of a core with cycle 2, 3 or 4 due; with another number due nothing happens (run refuses all but 1 to 4).
     fn later_cycle(self, kind: Kind, memory: &[u16]) -> Transition
         requires { self.clock.0 < 4294967295 }
-        ensures { result ≡ laterCycle kind memory.now self }
+        ensures { result ≡ later_cycle kind memory.now self }
     {
         let due = self.due;
         let last = self.is_last(kind);
@@ -547,7 +547,7 @@ impl Core {
     // The datapath engine: one cycle, for every core. One whose clock is full, or whose cycle due is none of 1 to 4, is handed back as it is. The
     // store is the caller's to make; whether the core is going is the caller's to ask.
     pub fn cycle(self, memory: &[u16]) -> Transition
-        ensures { result ≡ cycleOrIdle memory.now self }
+        ensures { result ≡ cycle_or_idle memory.now self }
     {
         let clock = self.clock;
         if clock_full(clock, 1) {
@@ -559,7 +559,7 @@ impl Core {
     // The cycle due, where the clock has room for it.
     fn due_cycle(self, memory: &[u16]) -> Transition
         requires { self.clock.0 < 4294967295 }
-        ensures { result ≡ dueCycle memory.now self }
+        ensures { result ≡ due_cycle memory.now self }
     {
         if self.due == 1 {
             return self.fetch(memory).transition(false, Store::Nothing);
@@ -570,7 +570,7 @@ impl Core {
     // One cycle, its store made.
     fn cycle_on(self, memory: &mut [u16]) -> Moved
         requires { self.clock.0 < 4294967295 }
-        ensures { reached result memory.new ≡ cycleOn (starting self memory.old) }
+        ensures { reached result memory.new ≡ cycle_on (starting self memory.old) }
     {
         let transition = self.due_cycle(memory);
         let store = transition.store;
@@ -585,7 +585,7 @@ impl Core {
 
     // The state that whole instructions start from, with a budget.
     fn working_from(self, b: u32) -> Working
-        ensures { result ≡ workingFrom b self }
+        ensures { result ≡ working_from b self }
     {
         let flags = self.flags;
         let hidden = self.hidden;
@@ -620,8 +620,8 @@ impl Core {
 
     // At most `most` whole instructions of a core with cycle 1 due, each where it is going and what is left of the budget has room for one.
     fn instructions(self, most: u32, b: u32, memory: &mut [u16]) -> Moved
-        requires { (dueOne self ≡ true) × (self.clock.0 + b ≤ 4294967295) }
-        ensures { reached result memory.new ≡ instructionsOn most b (starting self memory.old) }
+        requires { (due_one self ≡ true) × (self.clock.0 + b ≤ 4294967295) }
+        ensures { reached result memory.new ≡ instructions_on most b (starting self memory.old) }
     {
         let mut regs = self.regs;
         let mut state = self.working_from(b);
@@ -641,7 +641,7 @@ impl Core {
     // A turn of run's loop: whole instructions where cycle 1 is due and there is room for one, else a cycle.
     fn instructions_or_cycle(self, b: u32, memory: &mut [u16]) -> Moved
         requires { (1 ≤ b) × (self.clock.0 + b ≤ 4294967295) }
-        ensures { reached result memory.new ≡ instructionsOrCycle b (starting self memory.old) }
+        ensures { reached result memory.new ≡ instructions_or_cycle b (starting self memory.old) }
     {
         if LONGEST <= b {
             if self.one_due() {
@@ -655,7 +655,7 @@ impl Core {
 
     // The hidden registers zero.
     fn without_hidden(mut self) -> Core
-        ensures { result ≡ withHidden noHidden self }
+        ensures { result ≡ with_hidden no_hidden self }
     {
         let hidden = no_hidden();
         self.hidden = hidden;
@@ -663,20 +663,20 @@ impl Core {
     }
 
     fn goes(self) -> bool
-        ensures { result ≡ isGoing self.stop }
+        ensures { result ≡ is_going self.stop }
     {
         let stop = self.stop;
         is_going(stop)
     }
 
     fn one_due(self) -> bool
-        ensures { result ≡ dueOne self }
+        ensures { result ≡ due_one self }
     {
         self.due == 1
     }
 
     fn due_in_range(self) -> bool
-        ensures { result ≡ dueInRange self }
+        ensures { result ≡ due_in_range self }
     {
         if 1 <= self.due {
             return self.due <= 4;
@@ -686,7 +686,7 @@ impl Core {
 
     // The cycles spent in an unfinished instruction, of a core that calls made of a fresh one.
     pub fn spent(self) -> u8
-        ensures { result ≡ spentOf self }
+        ensures { result ≡ spent_of self }
     {
         if self.due == 0 {
             return 0;
@@ -714,7 +714,7 @@ impl Core {
 
     // What a run or a step that is taken answers, beside the core that it leaves.
     fn ran(self, used: Cycles, finished: Instructions) -> RunReply
-        ensures { (result.core ≡ self) × (runAnswerOf result.answer ≡ ran used.0 finished.0 (end_of self.stop (dueOne self))) }
+        ensures { (result.core ≡ self) × (run_answer_of result.answer ≡ ran used.0 finished.0 (end_of self.stop (due_one self))) }
     {
         let stop = self.stop;
         let end = end_of(stop, self.one_due());
@@ -729,7 +729,7 @@ impl Core {
     }
 
     fn run_refused(self, why: Refusal) -> RunReply
-        ensures { (result.core ≡ self) × (runAnswerOf result.answer ≡ refused (refusalNumber why)) }
+        ensures { (result.core ≡ self) × (run_answer_of result.answer ≡ refused (refusal_number why)) }
     {
         let answer = RunAnswer::Refused(why);
         RunReply {
@@ -752,7 +752,7 @@ impl Core {
 
     // A fresh core for this one.
     pub fn reset(mut self) -> Core
-        ensures { resetGave result ≡ reset self }
+        ensures { reset_gave result ≡ reset self }
     {
         self = fresh();
         self
@@ -760,7 +760,7 @@ impl Core {
 
     // A listing, checked and stored.
     pub fn load(self, text: &[u8], memory: &mut [u16]) -> LoadReply
-        ensures { loadGave result memory.new ≡ load text.now self memory.old }
+        ensures { load_gave result memory.new ≡ load text.now self memory.old }
     {
         let verdict = load_verdict(memory.len(), self.one_due());
         if let Verdict::Refused(why) = verdict {
@@ -777,7 +777,7 @@ impl Core {
 
     // b datapath cycles, fewer if the core stops.
     pub fn run(mut self, b: u32, memory: &mut [u16]) -> RunReply
-        ensures { runGave result memory.new ≡ run b self memory.old }
+        ensures { run_gave result memory.new ≡ run b self memory.old }
     {
         let stop = self.stop;
         let clock = self.clock;
@@ -799,7 +799,7 @@ impl Core {
 
     // One instruction by the instruction engine; the hidden registers become zero.
     pub fn step(mut self, memory: &mut [u16]) -> RunReply
-        ensures { runGave result memory.new ≡ step self memory.old }
+        ensures { run_gave result memory.new ≡ step self memory.old }
     {
         let stop = self.stop;
         let clock = self.clock;
@@ -817,8 +817,8 @@ impl Core {
 
     // All but the hidden registers; where it is refused, the snapshot is that of a fresh core.
     pub fn view(self) -> ViewReply
-        ensures reply { viewGave result ≡ view self }
-        ensures snapshot { result.snapshot ≡ shown (cond (dueOne self) self freshCore) }
+        ensures reply { view_gave result ≡ view self }
+        ensures snapshot { result.snapshot ≡ shown (cond (due_one self) self fresh_core) }
     {
         let verdict = view_verdict(self.one_due());
         let other = fresh();

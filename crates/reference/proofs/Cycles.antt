@@ -10,132 +10,132 @@ use lib.ListN.{set}
 use lib.Seq.{set-get_or}
 use Rattle.words.specs.Arithmetic.{conjunction, disjunction, exclusive}
 use Rattle.isa.specs.Fields as isa
-use Rattle.isa.specs.Fields.{fieldT, fieldA, fieldB}
-use Rattle.isa.specs.Control.{secondRegister}
-use Rattle.isa.specs.Cost.{countOf, jumpClass, costOf}
+use Rattle.isa.specs.Fields.{field_t, field_a, field_b}
+use Rattle.isa.specs.Control.{second_register}
+use Rattle.isa.specs.Cost.{count_of, jump_class, cost_of}
 use Rattle.isa.specs.declared.Kind.{Kind}
 use Rattle.isa.specs.declared.Kind.TheVariants as kind
 use Rattle.table.specs.Table.{table, kind_of}
 use Rattle.alu.specs.Flags as alu
 use Rattle.alu.specs.declared.Outcome.{Outcome}
 use Rattle.effects.specs.Effect.{untouched}
-use Rattle.effects.specs.Hidden.{withIr, withRaRb}
-use Rattle.effects.specs.Cycles.{stopOf, calculated, writtenBack}
+use Rattle.effects.specs.Hidden.{with_ir, with_ra_rb}
+use Rattle.effects.specs.Cycles.{stop_of, calculated, written_back}
 use Rattle.effects.specs.Table.{jumped}
 use Rattle.effects.specs.declared.Effect.{Effect}
 use Rattle.effects.specs.declared.Stop.{Stop}
 use Rattle.effects.specs.declared.Stop.TheVariants.{Going, Halted, Undefined}
 use Rattle.effects.specs.declared.Store.{Store}
 use Rattle.effects.specs.declared.Store.TheVariants.{Nothing}
-use Rattle.r8_core.specs.Cores.{with_regs, withHidden, withDue, stopped, withClock, visible, withVisible, visibleOf, effectBefore, raOf, rbOf}
-use Rattle.r8_core.specs.Datapath.{fetched, second, withResult, third, withEffect, fourthEffect, dueAfter, transition, isLast, laterCycle, cycleOrIdle}
+use Rattle.r8_core.specs.Cores.{with_regs, with_hidden, with_due, stopped, with_clock, visible, with_visible, visible_of, effect_before, ra_of, rb_of}
+use Rattle.r8_core.specs.Datapath.{fetched, second, with_result, third, with_effect, fourth_effect, due_after, transition, is_last, later_cycle, cycle_or_idle}
 use Rattle.r8_core.specs.declared.Core.{Core}
 use Rattle.r8_core.specs.declared.Transition.{Transition}
-use Rattle.r8_core.proofs.Cycles.{within-clock, first-cycle, later, second-cycle, third-cycle, fourth-cycle}
+use Rattle.r8_core.proofs.Cycles.{within_clock, first_cycle, later, second_cycle, third_cycle, fourth_cycle}
 use Rattle.reference.specs.Notation.{word, k, d10, ◌⊕◌, added, subtracted, NZ, plain}
-use Rattle.reference.specs.Cycles.{setStop, due, ends, R, PC, Ra, RB, latch, alu, aim, jump, Row, CyclesExactly}
+use Rattle.reference.specs.Cycles.{set_stop, due, ends, R, PC, Ra, RB, latch, alu, aim, jump, Row, CyclesExactly}
 use Rattle.reference.proofs.Fields as fields
-use Rattle.reference.proofs.Fields.{kindBy}
-use Rattle.reference.proofs.Instructions.{sum_said, difference-said}
+use Rattle.reference.proofs.Fields.{kind_by}
+use Rattle.reference.proofs.Instructions.{sum_said, difference_said}
 
 module _ (c : Core) (M : List ℕ) (room : c.clock.0 < 4294967295) where
   -- the core x after cycle n of an instruction of some kind
   abbrev given : ℕ → Kind → Core → Store → Transition
   given n kind x store =
-      let last : Bool = leb (costOf kind c.flags) n in
-      record { core = withClock (c.clock.0 + 1) (withDue (dueAfter last n) x); finished = last; store = store }
+      let last : Bool = leb (cost_of kind c.flags) n in
+      record { core = with_clock (c.clock.0 + 1) (with_due (due_after last n) x); finished = last; store = store }
 
   -- cycle 2, by the registers t, a, b
   abbrev latched : Stop → ℕ → ℕ → Core
-  latched Going p q = withHidden (withRaRb p q c.hidden) c
+  latched Going p q = with_hidden (with_ra_rb p q c.hidden) c
   latched Halted p q = stopped Halted c
   latched Undefined p q = stopped Undefined c
 
-  abbrev twoOn : ℕ → Kind → ℕ → ℕ → ℕ → Transition
-  twoOn n kind t a b = given n kind (latched (stopOf kind) (R c M a) (R c M (secondRegister kind t b))) Nothing
+  abbrev two_on : ℕ → Kind → ℕ → ℕ → ℕ → Transition
+  two_on n kind t a b = given n kind (latched (stop_of kind) (R c M a) (R c M (second_register kind t b))) Nothing
 
   -- cycle 3, by the word
-  abbrev threeOn : ℕ → Kind → ℕ → Transition
-  threeOn n kind w = given n kind (withResult (calculated kind (withIr w c.hidden) (effectBefore w (visibleOf c))) c) Nothing
+  abbrev three_on : ℕ → Kind → ℕ → Transition
+  three_on n kind w = given n kind (with_result (calculated kind (with_ir w c.hidden) (effect_before w (visible_of c))) c) Nothing
 
   -- cycle 4, by the register t
   abbrev backed : Kind → ℕ → Effect
-  backed kind t = writtenBack kind c.hidden M (untouched (R c M t) c.pc c.sp c.flags c.stop)
+  backed kind t = written_back kind c.hidden M (untouched (R c M t) c.pc c.sp c.flags c.stop)
 
-  abbrev fourOn : ℕ → Kind → ℕ → Transition
-  fourOn n kind t =
+  abbrev four_on : ℕ → Kind → ℕ → Transition
+  four_on n kind t =
       let x : Effect = backed kind t in
-      given n kind (withVisible (visible (set c.regs t x.rt) x.pc x.sp x.flags x.stop) c) x.store
+      given n kind (with_visible (visible (set c.regs t x.rt) x.pc x.sp x.flags x.stop) c) x.store
 
-  on-cycle : (n : ℕ) → c.due ≡ n → (n ≡ 1 → ⊥) → cycleOrIdle M c ≡ laterCycle (kind_of c.hidden.ir) M c
-  on-cycle n e other = within-clock M c room ∙ later M c (λ d. other (sym e ∙ d))
+  on_cycle : (n : ℕ) → c.due ≡ n → (n ≡ 1 → ⊥) → cycle_or_idle M c ≡ later_cycle (kind_of c.hidden.ir) M c
+  on_cycle n e other = within_clock M c room ∙ later M c (λ d. other (sym e ∙ d))
 
-  as-latched : (s : Stop) (x : Kind) → second s x c ≡ latched s (raOf c.hidden.ir c.regs) (rbOf x c.hidden.ir c.regs)
-  as-latched Going x = refl
-  as-latched Halted x = refl
-  as-latched Undefined x = refl
+  as_latched : (s : Stop) (x : Kind) → second s x c ≡ latched s (ra_of c.hidden.ir c.regs) (rb_of x c.hidden.ir c.regs)
+  as_latched Going x = refl
+  as_latched Halted x = refl
+  as_latched Undefined x = refl
 
-  latched-due : (s : Stop) (p q : ℕ) → (latched s p q).due ≡ c.due
-  latched-due Going p q = refl
-  latched-due Halted p q = refl
-  latched-due Undefined p q = refl
+  latched_due : (s : Stop) (p q : ℕ) → (latched s p q).due ≡ c.due
+  latched_due Going p q = refl
+  latched_due Halted p q = refl
+  latched_due Undefined p q = refl
 
-  latched-clock : (s : Stop) (p q : ℕ) → (latched s p q).clock ≡ c.clock
-  latched-clock Going p q = refl
-  latched-clock Halted p q = refl
-  latched-clock Undefined p q = refl
+  latched_clock : (s : Stop) (p q : ℕ) → (latched s p q).clock ≡ c.clock
+  latched_clock Going p q = refl
+  latched_clock Halted p q = refl
+  latched_clock Undefined p q = refl
 
   -- a cycle on a core that has kept the cycle due and the clock
   ticks : (n : ℕ) (kind : Kind) (x : Core) (store : Store) → c.due ≡ n → x.due ≡ c.due → x.clock ≡ c.clock
-      → transition (isLast kind c) x store ≡ given n kind x store
+      → transition (is_last kind c) x store ≡ given n kind x store
   ticks n kind x store e ed ec =
       λ j. record {
-        core = withClock ((ec j).0 + 1) (withDue (dueAfter (leb (costOf kind c.flags) (e j)) ((ed ∙ e) j)) x);
-        finished = leb (costOf kind c.flags) (e j);
+        core = with_clock ((ec j).0 + 1) (with_due (due_after (leb (cost_of kind c.flags) (e j)) ((ed ∙ e) j)) x);
+        finished = leb (cost_of kind c.flags) (e j);
         store = store;
       }
 
-  is-two : c.due ≡ 2
-      → cycleOrIdle M c ≡ twoOn 2 (kind_of c.hidden.ir) (fieldT c.hidden.ir) (fieldA c.hidden.ir) (fieldB c.hidden.ir)
-  is-two e =
+  is_two : c.due ≡ 2
+      → cycle_or_idle M c ≡ two_on 2 (kind_of c.hidden.ir) (field_t c.hidden.ir) (field_a c.hidden.ir) (field_b c.hidden.ir)
+  is_two e =
       let w : ℕ = c.hidden.ir in
-      let p : ℕ = raOf w c.regs in
-      let q : ℕ = rbOf (kind_of w) w c.regs in
-      let s : Stop = stopOf (kind_of w) in
-      on-cycle 2 e (λ d. omega arith)
-      ∙ second-cycle M c (kind_of w) e
-      ∙ ap (λ (x : Core). transition (isLast (kind_of w) c) x Nothing) (as-latched s (kind_of w))
-      ∙ ticks 2 (kind_of w) (latched s p q) Nothing e (latched-due s p q) (latched-clock s p q)
+      let p : ℕ = ra_of w c.regs in
+      let q : ℕ = rb_of (kind_of w) w c.regs in
+      let s : Stop = stop_of (kind_of w) in
+      on_cycle 2 e (λ d. omega arith)
+      ∙ second_cycle M c (kind_of w) e
+      ∙ ap (λ (x : Core). transition (is_last (kind_of w) c) x Nothing) (as_latched s (kind_of w))
+      ∙ ticks 2 (kind_of w) (latched s p q) Nothing e (latched_due s p q) (latched_clock s p q)
 
-  is-three : c.due ≡ 3 → cycleOrIdle M c ≡ threeOn 3 (kind_of c.hidden.ir) c.hidden.ir
-  is-three e =
+  is_three : c.due ≡ 3 → cycle_or_idle M c ≡ three_on 3 (kind_of c.hidden.ir) c.hidden.ir
+  is_three e =
       let w : ℕ = c.hidden.ir in
-      on-cycle 3 e (λ d. omega arith)
-      ∙ third-cycle M c (kind_of w) e
+      on_cycle 3 e (λ d. omega arith)
+      ∙ third_cycle M c (kind_of w) e
       ∙ ticks 3 (kind_of w) (third (kind_of w) c) Nothing e refl refl
 
-  is-four : c.due ≡ 4 → cycleOrIdle M c ≡ fourOn 4 (kind_of c.hidden.ir) (fieldT c.hidden.ir)
-  is-four e =
+  is_four : c.due ≡ 4 → cycle_or_idle M c ≡ four_on 4 (kind_of c.hidden.ir) (field_t c.hidden.ir)
+  is_four e =
       let w : ℕ = c.hidden.ir in
-      on-cycle 4 e (λ d. omega arith)
-      ∙ fourth-cycle M c (kind_of w) e
-      ∙ ticks 4 (kind_of w) (withEffect (fourthEffect (kind_of w) M c) c) (fourthEffect (kind_of w) M c).store e refl refl
+      on_cycle 4 e (λ d. omega arith)
+      ∙ fourth_cycle M c (kind_of w) e
+      ∙ ticks 4 (kind_of w) (with_effect (fourth_effect (kind_of w) M c) c) (fourth_effect (kind_of w) M c).store e refl refl
 
   -- the row of a word with these digits, q being its bits 11-10
   row : (o t a b q : ℕ) → o < 16 → t < 16 → a < 16 → b < 16 → t / 4 ≡ q
-      → Row c M (word o t a b) (twoOn 2 (kindBy o b q) t a b) (threeOn 3 (kindBy o b q) (word o t a b)) (fourOn 4 (kindBy o b q) t)
+      → Row c M (word o t a b) (two_on 2 (kind_by o b q) t a b) (three_on 3 (kind_by o b q) (word o t a b)) (four_on 4 (kind_by o b q) t)
   row o t a b q ho ht ha hb e =
-      let kind = fields.kind-by o t a b ho ht ha hb q e in
-      let et = fields.field-t o t a b ho ht ha hb in
-      let ea = fields.field-a o t a b ho ht ha hb in
-      let eb = fields.field-b o t a b ho ht ha hb in
+      let kind = fields.kind_by_lem o t a b ho ht ha hb q e in
+      let et = fields.field_t_lem o t a b ho ht ha hb in
+      let ea = fields.field_a_lem o t a b ho ht ha hb in
+      let eb = fields.field_b_lem o t a b ho ht ha hb in
       record {
         second =
-            λ h d. is-two d
-            ∙ ap (λ (w : ℕ). twoOn 2 (kind_of w) (fieldT w) (fieldA w) (fieldB w)) h
-            ∙ (λ j. twoOn 2 (kind j) (et j) (ea j) (eb j));
-        third = λ h d. is-three d ∙ ap (λ (w : ℕ). threeOn 3 (kind_of w) w) h ∙ (λ j. threeOn 3 (kind j) (word o t a b));
-        fourth = λ h d. is-four d ∙ ap (λ (w : ℕ). fourOn 4 (kind_of w) (fieldT w)) h ∙ (λ j. fourOn 4 (kind j) (et j));
+            λ h d. is_two d
+            ∙ ap (λ (w : ℕ). two_on 2 (kind_of w) (field_t w) (field_a w) (field_b w)) h
+            ∙ (λ j. two_on 2 (kind j) (et j) (ea j) (eb j));
+        third = λ h d. is_three d ∙ ap (λ (w : ℕ). three_on 3 (kind_of w) w) h ∙ (λ j. three_on 3 (kind j) (word o t a b));
+        fourth = λ h d. is_four d ∙ ap (λ (w : ℕ). four_on 4 (kind_of w) (field_t w)) h ∙ (λ j. four_on 4 (kind j) (et j));
       }
 
   -- a row said otherwise
@@ -164,9 +164,9 @@ module _ (c : Core) (M : List ℕ) (room : c.clock.0 < 4294967295) where
   -- a jump, by whether its condition holds
   abbrev held : Bool → ℕ → ℕ → Transition
   held g a b =
-      let last : Bool = leb (countOf (jumpClass g)) 2 in
+      let last : Bool = leb (count_of (jump_class g)) 2 in
       record {
-        core = withClock (c.clock.0 + 1) (withDue (dueAfter last 2) (latched Going (R c M a) (R c M b)));
+        core = with_clock (c.clock.0 + 1) (with_due (due_after last 2) (latched Going (R c M a) (R c M b)));
         finished = last;
         store = Nothing;
       }
@@ -177,9 +177,9 @@ module _ (c : Core) (M : List ℕ) (room : c.clock.0 < 4294967295) where
 
   abbrev aimed : Bool → ℕ → Transition
   aimed g x =
-      let last : Bool = leb (countOf (jumpClass g)) 3 in
+      let last : Bool = leb (count_of (jump_class g)) 3 in
       record {
-        core = withClock (c.clock.0 + 1) (withDue (dueAfter last 3) (withResult (plain c.flags x) c));
+        core = with_clock (c.clock.0 + 1) (with_due (due_after last 3) (with_result (plain c.flags x) c));
         finished = last;
         store = Nothing;
       }
@@ -190,12 +190,12 @@ module _ (c : Core) (M : List ℕ) (room : c.clock.0 < 4294967295) where
 
   abbrev leapt : ℕ → Bool → Transition
   leapt t g =
-      let last : Bool = leb (countOf (jumpClass g)) 4 in
+      let last : Bool = leb (count_of (jump_class g)) 4 in
       let x : Effect = jumped g c.hidden.ralu (untouched (R c M t) c.pc c.sp c.flags c.stop) in
       record {
         core =
-            withClock (c.clock.0 + 1)
-            (withDue (dueAfter last 4) (withVisible (visible (set c.regs t x.rt) x.pc x.sp x.flags x.stop) c));
+            with_clock (c.clock.0 + 1)
+            (with_due (due_after last 4) (with_visible (visible (set c.regs t x.rt) x.pc x.sp x.flags x.stop) c));
         finished = last;
         store = x.store;
       }
@@ -211,25 +211,25 @@ module _ (c : Core) (M : List ℕ) (room : c.clock.0 < 4294967295) where
 
   -- D and E: by d10
   short : (o a b u q : ℕ) (g : Bool) → o < 16 → a < 16 → b < 16 → u < 4 → q < 4
-      → (Row c M (word o (q * 4 + u) a b) (twoOn 2 (kindBy o b q) (q * 4 + u) a b) (threeOn 3 (kindBy o b q) (word o (q * 4 + u) a b))
-      (fourOn 4 (kindBy o b q) (q * 4 + u))
+      → (Row c M (word o (q * 4 + u) a b) (two_on 2 (kind_by o b q) (q * 4 + u) a b) (three_on 3 (kind_by o b q) (word o (q * 4 + u) a b))
+      (four_on 4 (kind_by o b q) (q * 4 + u))
       → Row c M (word o (q * 4 + u) a b) (held g a b) (aimed g (PC c M ⊕ isa.d10 (word o (q * 4 + u) a b))) (leapt (q * 4 + u) g))
       → Row c M (word o (q * 4 + u) a b) (latch c M a b) (aim c M g (PC c M ⊕ d10 u a b)) (jump c M g)
-  short o a b u q g ho ha hb hu hq same =
+  short o a b u q g ho ha hb hu hq Same =
       jumps (word o (q * 4 + u) a b) (q * 4 + u) a b g (PC c M ⊕ isa.d10 (word o (q * 4 + u) a b)) (PC c M ⊕ d10 u a b)
-      (ap (λ (x : ℕ). PC c M ⊕ x) (fields.short o u q a b hu ha hb)) (same (row o (q * 4 + u) a b q ho (omega arith) ha hb (omega arith)))
+      (ap (λ (x : ℕ). PC c M ⊕ x) (fields.short o u q a b hu ha hb)) (Same (row o (q * 4 + u) a b q ho (omega arith) ha hb (omega arith)))
 
   -- a word of no kind
-  none : (o t a b : ℕ) → o < 16 → t < 16 → a < 16 → b < 16 → kindBy o b (t / 4) ≡ kind.Undefined
-      → Row c M (word o t a b) (setStop Undefined (ends c M)) (ends c M) (ends c M)
-  unfolding costOf
+  none : (o t a b : ℕ) → o < 16 → t < 16 → a < 16 → b < 16 → kind_by o b (t / 4) ≡ kind.Undefined
+      → Row c M (word o t a b) (set_stop Undefined (ends c M)) (ends c M) (ends c M)
+  unfolding cost_of
   none o t a b ho ht ha hb n =
-      said (word o t a b) _ _ _ _ _ _ (ap (λ (x : Kind). twoOn 2 x t a b) n) (ap (λ (x : Kind). threeOn 3 x (word o t a b)) n)
-      (ap (λ (x : Kind). fourOn 4 x t) n ∙ kept t (ends c M) refl) (row o t a b (t / 4) ho ht ha hb refl)
+      said (word o t a b) _ _ _ _ _ _ (ap (λ (x : Kind). two_on 2 x t a b) n) (ap (λ (x : Kind). three_on 3 x (word o t a b)) n)
+      (ap (λ (x : Kind). four_on 4 x t) n ∙ kept t (ends c M) refl) (row o t a b (t / 4) ho ht ha hb refl)
 
-pub cycles-exactly : CyclesExactly
-unfolding table costOf conjunction disjunction exclusive
-cycles-exactly c M room ra rb t a b u q ht ha hb hu hq =
+pub cycles_exactly : CyclesExactly
+unfolding table cost_of conjunction disjunction exclusive
+cycles_exactly c M room ra rb t a b u q ht ha hb hu hq =
     let hk : k a b < 65536 = omega arith in
     let f = c.flags in
     let row = row c M room in
@@ -239,16 +239,16 @@ cycles-exactly c M room ra rb t a b u q ht ha hb hu hq =
     let short = short c M room in
     let none = none c M room in
     record {
-      fetch = λ d. within-clock M c room ∙ first-cycle M c d ∙ ap (λ (n : ℕ). record { core = withClock (c.clock.0 + 1) (withDue (n + 1) (fetched M c)); finished = false; store = Nothing }) d;
+      fetch = λ d. within_clock M c room ∙ first_cycle M c d ∙ ap (λ (n : ℕ). record { core = with_clock (c.clock.0 + 1) (with_due (n + 1) (fetched M c)); finished = false; store = Nothing }) d;
       ADD = calculating _ _ _ _ _ (sum_said (Ra c M) (RB c M) ra rb) (row 0x0 t a b (t / 4) (lit< tt) ht ha hb refl);
-      SUB = calculating _ _ _ _ _ (difference-said (Ra c M) (RB c M) ra rb) (row 0x1 t a b (t / 4) (lit< tt) ht ha hb refl);
+      SUB = calculating _ _ _ _ _ (difference_said (Ra c M) (RB c M) ra rb) (row 0x1 t a b (t / 4) (lit< tt) ht ha hb refl);
       AND = row 0x2 t a b (t / 4) (lit< tt) ht ha hb refl;
       OR = row 0x3 t a b (t / 4) (lit< tt) ht ha hb refl;
       XOR = row 0x4 t a b (t / 4) (lit< tt) ht ha hb refl;
-      ADDI = calculating _ _ _ _ _ (ap (alu.added (RB c M)) (fields.field-k 0x5 t a b (lit< tt) ht ha hb) ∙ sum_said (RB c M) (k a b) rb hk) (row 0x5 t a b (t / 4) (lit< tt) ht ha hb refl);
-      SUBI = calculating _ _ _ _ _ (ap (alu.subtracted (RB c M)) (fields.field-k 0x6 t a b (lit< tt) ht ha hb) ∙ difference-said (RB c M) (k a b) rb hk) (row 0x6 t a b (t / 4) (lit< tt) ht ha hb refl);
-      LDL = calculating _ _ _ _ _ (ap (λ (x : ℕ). plain f (RB c M / 256 * 256 + x)) (fields.field-k 0x7 t a b (lit< tt) ht ha hb)) (row 0x7 t a b (t / 4) (lit< tt) ht ha hb refl);
-      LDH = calculating _ _ _ _ _ (ap (λ (x : ℕ). plain f (x * 256 + RB c M % 256)) (fields.field-k 0x8 t a b (lit< tt) ht ha hb)) (row 0x8 t a b (t / 4) (lit< tt) ht ha hb refl);
+      ADDI = calculating _ _ _ _ _ (ap (alu.added (RB c M)) (fields.field_k_lem 0x5 t a b (lit< tt) ht ha hb) ∙ sum_said (RB c M) (k a b) rb hk) (row 0x5 t a b (t / 4) (lit< tt) ht ha hb refl);
+      SUBI = calculating _ _ _ _ _ (ap (alu.subtracted (RB c M)) (fields.field_k_lem 0x6 t a b (lit< tt) ht ha hb) ∙ difference_said (RB c M) (k a b) rb hk) (row 0x6 t a b (t / 4) (lit< tt) ht ha hb refl);
+      LDL = calculating _ _ _ _ _ (ap (λ (x : ℕ). plain f (RB c M / 256 * 256 + x)) (fields.field_k_lem 0x7 t a b (lit< tt) ht ha hb)) (row 0x7 t a b (t / 4) (lit< tt) ht ha hb refl);
+      LDH = calculating _ _ _ _ _ (ap (λ (x : ℕ). plain f (x * 256 + RB c M % 256)) (fields.field_k_lem 0x8 t a b (lit< tt) ht ha hb)) (row 0x8 t a b (t / 4) (lit< tt) ht ha hb refl);
       LD = row 0x9 t a b (t / 4) (lit< tt) ht ha hb refl;
       ST = still _ t _ _ _ refl (row 0xA t a b (t / 4) (lit< tt) ht ha hb refl);
       SL0 = calculating _ _ _ _ _ (ap (λ (x : ℕ). NZ f (x % 65536)) (add-zero (Ra c M * 2))) (row 0xB t a 0x0 (t / 4) (lit< tt) ht ha (lit< tt) refl);
@@ -280,5 +280,5 @@ cycles-exactly c M room ra rb t a b u q ht ha hb hu hq =
       JMPCD = short 0xE a b u 2 f.c (lit< tt) ha hb hu (lit< tt) (λ r. r);
       JMPVD = short 0xE a b u 3 f.v (lit< tt) ha hb hu (lit< tt) (λ r. r);
       JSRD = calculating _ _ _ _ _ (ap (λ (x : ℕ). plain f (PC c M ⊕ x)) (fields.long 0xF t a b (lit< tt) ht ha hb)) (still _ t _ _ _ refl (row 0xF t a b (t / 4) (lit< tt) ht ha hb refl));
-      undefined = λ o n. none o t a b (fields.digit-o o b n) ht ha hb (fields.no_kind o b (t / 4) n);
+      undefined = λ o n. none o t a b (fields.digit_o o b n) ht ha hb (fields.no_kind o b (t / 4) n);
     }

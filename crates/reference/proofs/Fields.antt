@@ -14,8 +14,8 @@ use Rattle.table.specs.Table.{table, place_of, kind_of}
 use Rattle.reference.specs.Notation.{word, NoInstruction, k, d10, d12}
 
 -- the kind by the fields that it goes by; at digits it computes
-abbrev pub kindBy : ℕ → ℕ → ℕ → Kind
-kindBy o b q =
+abbrev pub kind_by : ℕ → ℕ → ℕ → Kind
+kind_by o b q =
     get_or table
     (cond (ltb o 11) o
     (cond (eqb o 11) (cond (ltb b 11) (11 + b) 40)
@@ -25,29 +25,29 @@ kindBy o b q =
     Undefined
 
 module _ (o t a b : ℕ) (ho : o < 16) (ht : t < 16) (ha : a < 16) (hb : b < 16) where
-  pub field-t : isa.fieldT (word o t a b) ≡ t
+  pub field_t_lem : isa.field_t (word o t a b) ≡ t
   unfolding word
-  field-t = omega arith
+  field_t_lem = omega arith
 
-  pub field-a : isa.fieldA (word o t a b) ≡ a
+  pub field_a_lem : isa.field_a (word o t a b) ≡ a
   unfolding word
-  field-a = omega arith
+  field_a_lem = omega arith
 
-  pub field-b : isa.fieldB (word o t a b) ≡ b
+  pub field_b_lem : isa.field_b (word o t a b) ≡ b
   unfolding word
-  field-b = omega arith
+  field_b_lem = omega arith
 
-  pub field-k : isa.fieldK (word o t a b) ≡ k a b
+  pub field_k_lem : isa.field_k (word o t a b) ≡ k a b
   unfolding word
-  field-k = omega arith
+  field_k_lem = omega arith
 
-  pub kind-by : (q : ℕ) → t / 4 ≡ q → kind_of (word o t a b) ≡ kindBy o b q
+  pub kind_by_lem : (q : ℕ) → t / 4 ≡ q → kind_of (word o t a b) ≡ kind_by o b q
   unfolding word kind_of place_of
-  kind-by q e =
+  kind_by_lem q e =
       let w : ℕ = word o t a b in
-      let eo : isa.fieldO w ≡ o = omega arith in
+      let eo : isa.field_o w ≡ o = omega arith in
       let eq : isa.bits11to10 w ≡ q = omega (arith, e) in
-      λ j. kindBy (eo j) (field-b j) (eq j)
+      λ j. kind_by (eo j) (field_b_lem j) (eq j)
 
   pub bits12 : word o t a b % 4096 ≡ t * 0x100 + a * 0x10 + b
   unfolding word
@@ -65,11 +65,11 @@ pub short : (o u q a b : ℕ) → u < 4 → a < 16 → b < 16 → isa.d10 (word 
 short o u q a b hu ha hb = ap (isa.extended 512) (bits10 o u q a b hu ha hb)
 
 -- the words that are of no kind
-pub digit-o : (o b : ℕ) → NoInstruction o b → o < 16
-digit-o o b (inl n) = omega (arith, n.0)
-digit-o o b (inr n) = omega (arith, n.0)
+pub digit_o : (o b : ℕ) → NoInstruction o b → o < 16
+digit_o o b (inl n) = omega (arith, n.0)
+digit_o o b (inr n) = omega (arith, n.0)
 
-pub no_kind : (o b q : ℕ) → NoInstruction o b → kindBy o b q ≡ Undefined
+pub no_kind : (o b q : ℕ) → NoInstruction o b → kind_by o b q ≡ Undefined
 unfolding table
 no_kind o b q (inl n) = rw (n.0, le-ltb b 11 n.1)
 no_kind o b q (inr n) = rw (n.0, le-ltb b 12 n.1)

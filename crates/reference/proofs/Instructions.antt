@@ -10,12 +10,12 @@ use lib.ListN.{length, set}
 use lib.Seq.{set-get_or}
 use borrow.Author.Tests.{le-ltb, ne_eqb}
 use Rattle.words.specs.Memory.{word_at}
-use Rattle.refusals.specs.Refusals.{wrongLength}
+use Rattle.refusals.specs.Refusals.{wrong_length}
 use Rattle.refusals.proofs.First.{passed, none_left}
 use Rattle.words.specs.Arithmetic.{conjunction, disjunction, exclusive}
 use Rattle.isa.specs.Fields as isa
-use Rattle.isa.specs.Fields.{fieldT, fieldA, fieldB}
-use Rattle.isa.specs.Cost.{countOf, jumpClass, costOf}
+use Rattle.isa.specs.Fields.{field_t, field_a, field_b}
+use Rattle.isa.specs.Cost.{count_of, jump_class, cost_of}
 use Rattle.isa.specs.declared.Kind.{Kind}
 use Rattle.isa.specs.declared.Kind.TheVariants.{Undefined}
 use Rattle.table.specs.Table.{table, kind_of}
@@ -28,19 +28,19 @@ use Rattle.effects.specs.declared.Stop as stop
 use Rattle.effects.specs.declared.Stop.TheVariants.{Going}
 use Rattle.effects.specs.declared.Store.TheVariants.{Nothing}
 use Rattle.r8_core.specs.Cores.{with_regs}
-use Rattle.r8_core.specs.Spent.{dueOne}
-use Rattle.r8_core.specs.Instruction.{after, memoryAfter, takes, stepTransition}
-use Rattle.r8_core.specs.Numbers.{clockFull, runNumber}
+use Rattle.r8_core.specs.Spent.{due_one}
+use Rattle.r8_core.specs.Instruction.{after, memory_after, takes, step_transition}
+use Rattle.r8_core.specs.Numbers.{clock_full, run_number}
 use Rattle.r8_core.specs.Calls.{ran, end_of, Reply, step}
 use Rattle.r8_core.specs.declared.Core.{Core}
 use Rattle.r8_core.specs.declared.End.TheVariants.{U}
-use Rattle.r8_core.proofs.Spent.{one-when-due}
-use Rattle.r8_core.proofs.Replies.{step-starts}
+use Rattle.r8_core.proofs.Spent.{one_when_due}
+use Rattle.r8_core.proofs.Replies.{step_starts}
 use Rattle.reference.specs.Notation.{word, k, d10, d12, ◌⊕◌, ◌⊖◌, all, added, subtracted, NZ, plain}
-use Rattle.reference.specs.Instructions.{setR, next, ending, R, PC, SP, jump, call, ◌⟹◌, InstructionsExactly, EveryWord}
+use Rattle.reference.specs.Instructions.{set_r, next, ending, R, PC, SP, jump, call, ◌⟹◌, InstructionsExactly, EveryWord}
 use Rattle.reference.proofs.Fields as fields
-use Rattle.reference.proofs.Fields.{kindBy}
-use Rattle.reference.proofs.Overflow.{sum-overflows, difference-overflows}
+use Rattle.reference.proofs.Fields.{kind_by}
+use Rattle.reference.proofs.Overflow.{sum_overflows_lem, difference_overflows_lem}
 
 module _ (c : Core) (M : List ℕ) (least : 1 ≤ length M) (most : length M ≤ 65536) (going : c.stop ≡ Going) (due : c.due ≡ 1)
     (room : c.clock.0 + 4 ≤ 4294967295) where
@@ -66,49 +66,49 @@ module _ (c : Core) (M : List ℕ) (least : 1 ≤ length M) (most : length M ≤
         memory = applied x.store M;
       }
 
-  abbrev stepOn : stop.Stop → Kind → ℕ → ℕ → ℕ → ℕ → Reply
-  stepOn s kind w t a b = shown t (executed kind w (R c M a) (R c M b) M (before s t)) (costOf kind c.flags)
+  abbrev step_on : stop.Stop → Kind → ℕ → ℕ → ℕ → ℕ → Reply
+  step_on s kind w t a b = shown t (executed kind w (R c M a) (R c M b) M (before s t)) (cost_of kind c.flags)
 
-  abbrev stepAt : stop.Stop → ℕ → Reply
-  stepAt s w = stepOn s (kind_of w) w (fieldT w) (fieldA w) (fieldB w)
+  abbrev step_at : stop.Stop → ℕ → Reply
+  step_at s w = step_on s (kind_of w) w (field_t w) (field_a w) (field_b w)
 
-  no_number : runNumber (length M) c.stop (dueOne c) c.clock.0 4 ≡ 0
-  unfolding runNumber
+  no_number : run_number (length M) c.stop (due_one c) c.clock.0 4 ≡ 0
+  unfolding run_number
   no_number =
-      let size : wrongLength (length M) ≡ false = rw (ne_eqb (length M) 0 (λ e. omega arith), le-ltb 65536 (length M) most) in
-      let full : clockFull c.clock.0 4 ≡ false = le-ltb 4294967295 (c.clock.0 + 4) room in
-      passed 1 _ _ size ∙ passed 8 _ _ (rw going) ∙ passed 7 _ _ (ap not (one-when-due c due)) ∙ passed 9 _ _ full ∙ none_left
+      let size : wrong_length (length M) ≡ false = rw (ne_eqb (length M) 0 (λ e. omega arith), le-ltb 65536 (length M) most) in
+      let full : clock_full c.clock.0 4 ≡ false = le-ltb 4294967295 (c.clock.0 + 4) room in
+      passed 1 _ _ size ∙ passed 8 _ _ (rw going) ∙ passed 7 _ _ (ap not (one_when_due c due)) ∙ passed 9 _ _ full ∙ none_left
 
-  is-step : step c M ≡ stepAt Going (word_at M c.pc)
-  unfolding after memoryAfter takes stepTransition
-  is-step = step-starts c M no_number ∙ ap (λ (s : stop.Stop). stepAt s (word_at M c.pc)) going
+  is_step : step c M ≡ step_at Going (word_at M c.pc)
+  unfolding after memory_after takes step_transition
+  is_step = step_starts c M no_number ∙ ap (λ (s : stop.Stop). step_at s (word_at M c.pc)) going
 
   -- the step of a word with these digits, q being its bits 11-10
   digits : (o t a b q : ℕ) → o < 16 → t < 16 → a < 16 → b < 16 → t / 4 ≡ q → word_at M c.pc ≡ word o t a b
-      → step c M ≡ stepOn Going (kindBy o b q) (word o t a b) t a b
+      → step c M ≡ step_on Going (kind_by o b q) (word o t a b) t a b
   digits o t a b q ho ht ha hb e h =
-      let kind = fields.kind-by o t a b ho ht ha hb q e in
-      let et = fields.field-t o t a b ho ht ha hb in
-      let ea = fields.field-a o t a b ho ht ha hb in
-      let eb = fields.field-b o t a b ho ht ha hb in
-      is-step ∙ ap (stepAt Going) h ∙ (λ j. stepOn Going (kind j) (word o t a b) (et j) (ea j) (eb j))
+      let kind = fields.kind_by_lem o t a b ho ht ha hb q e in
+      let et = fields.field_t_lem o t a b ho ht ha hb in
+      let ea = fields.field_a_lem o t a b ho ht ha hb in
+      let eb = fields.field_b_lem o t a b ho ht ha hb in
+      is_step ∙ ap (step_at Going) h ∙ (λ j. step_on Going (kind j) (word o t a b) (et j) (ea j) (eb j))
 
-  abbrev plainRow : ℕ → ℕ → ℕ → ℕ → Type 0
-  plainRow o t a b = ◌⟹◌ c M (word o t a b) (stepOn Going (kindBy o b (t / 4)) (word o t a b) t a b)
+  abbrev PlainRow : ℕ → ℕ → ℕ → ℕ → Type 0
+  PlainRow o t a b = ◌⟹◌ c M (word o t a b) (step_on Going (kind_by o b (t / 4)) (word o t a b) t a b)
 
-  row : (o t a b : ℕ) → o < 16 → t < 16 → a < 16 → b < 16 → plainRow o t a b
+  row : (o t a b : ℕ) → o < 16 → t < 16 → a < 16 → b < 16 → PlainRow o t a b
   row o t a b ho ht ha hb = digits o t a b (t / 4) ho ht ha hb refl
 
   -- Rt takes what f makes of k
   byte : (o t a b : ℕ) (f : ℕ → Outcome) → o < 16 → t < 16 → a < 16 → b < 16
-      → stepOn Going (kindBy o b (t / 4)) (word o t a b) t a b ≡ setR t (f (isa.fieldK (word o t a b))) (next c M 4)
-      → ◌⟹◌ c M (word o t a b) (setR t (f (k a b)) (next c M 4))
+      → step_on Going (kind_by o b (t / 4)) (word o t a b) t a b ≡ set_r t (f (isa.field_k (word o t a b))) (next c M 4)
+      → ◌⟹◌ c M (word o t a b) (set_r t (f (k a b)) (next c M 4))
   byte o t a b f ho ht ha hb s h =
-      row o t a b ho ht ha hb h ∙ s ∙ ap (λ (x : ℕ). setR t (f x) (next c M 4)) (fields.field-k o t a b ho ht ha hb)
+      row o t a b ho ht ha hb h ∙ s ∙ ap (λ (x : ℕ). set_r t (f x) (next c M 4)) (fields.field_k_lem o t a b ho ht ha hb)
 
   -- a result whose flags are said otherwise
-  setting : (w t : ℕ) (x y : Outcome) → x ≡ y → ◌⟹◌ c M w (setR t x (next c M 4)) → ◌⟹◌ c M w (setR t y (next c M 4))
-  setting w t x y e f h = f h ∙ ap (λ (z : Outcome). setR t z (next c M 4)) e
+  setting : (w t : ℕ) (x y : Outcome) → x ≡ y → ◌⟹◌ c M w (set_r t x (next c M 4)) → ◌⟹◌ c M w (set_r t y (next c M 4))
+  setting w t x y e f h = f h ∙ ap (λ (z : Outcome). set_r t z (next c M 4)) e
 
   -- Rt is as it was
   abbrev keeping : ℕ → Reply → Reply
@@ -127,7 +127,7 @@ module _ (c : Core) (M : List ℕ) (least : 1 ≤ length M) (most : length M ≤
 
   -- a jump
   abbrev leap : ℕ → Bool → ℕ → Reply
-  leap t g x = shown t (jumped g x (before Going t)) (countOf (jumpClass g))
+  leap t g x = shown t (jumped g x (before Going t)) (count_of (jump_class g))
 
   leaps : (t : ℕ) (g : Bool) (x : ℕ) → leap t g x ≡ jump c M g x
   leaps t true x = kept t (jump c M true x) refl
@@ -138,7 +138,7 @@ module _ (c : Core) (M : List ℕ) (least : 1 ≤ length M) (most : length M ≤
 
   -- D and E: a jump by d10
   short : (o a b u q : ℕ) (g : Bool) → o < 16 → a < 16 → b < 16 → u < 4 → q < 4
-      → stepOn Going (kindBy o b q) (word o (q * 4 + u) a b) (q * 4 + u) a b
+      → step_on Going (kind_by o b q) (word o (q * 4 + u) a b) (q * 4 + u) a b
       ≡ leap (q * 4 + u) g (PC c M ⊕ isa.d10 (word o (q * 4 + u) a b))
       → ◌⟹◌ c M (word o (q * 4 + u) a b) (jump c M g (PC c M ⊕ d10 u a b))
   short o a b u q g ho ha hb hu hq s h =
@@ -148,29 +148,29 @@ module _ (c : Core) (M : List ℕ) (least : 1 ≤ length M) (most : length M ≤
       ∙ ap (λ (x : ℕ). jump c M g (PC c M ⊕ x)) (fields.short o u q a b hu ha hb)
 
   long : (t a b : ℕ) → t < 16 → a < 16 → b < 16 → ◌⟹◌ c M (word 0xF t a b) (call c M (PC c M ⊕ d12 t a b))
-  unfolding table costOf
+  unfolding table cost_of
   long t a b ht ha hb h =
       row 0xF t a b (lit< tt) ht ha hb h
       ∙ kept t (call c M (PC c M ⊕ isa.d12 (word 0xF t a b))) refl
       ∙ ap (λ (x : ℕ). call c M (PC c M ⊕ x)) (fields.long 0xF t a b (lit< tt) ht ha hb)
 
   -- a word of no kind
-  none : (o t a b : ℕ) → o < 16 → t < 16 → a < 16 → b < 16 → kindBy o b (t / 4) ≡ Undefined
+  none : (o t a b : ℕ) → o < 16 → t < 16 → a < 16 → b < 16 → kind_by o b (t / 4) ≡ Undefined
       → ◌⟹◌ c M (word o t a b) (ending c M 2 stop.TheVariants.Undefined U)
-  unfolding costOf
+  unfolding cost_of
   none o t a b ho ht ha hb n =
-      still _ t _ refl (λ h. row o t a b ho ht ha hb h ∙ ap (λ (x : Kind). stepOn Going x (word o t a b) t a b) n)
+      still _ t _ refl (λ h. row o t a b ho ht ha hb h ∙ ap (λ (x : Kind). step_on Going x (word o t a b) t a b) n)
 
 -- V, once more, of a sum and a difference
 pub sum_said : (p q : ℕ) → p < 65536 → q < 65536 → alu.added p q ≡ added p q
-sum_said p q hp hq = ap (λ (x : Bool). all (p ⊕ q) (leb 65536 (p + q)) x) (sum-overflows p q hp hq)
+sum_said p q hp hq = ap (λ (x : Bool). all (p ⊕ q) (leb 65536 (p + q)) x) (sum_overflows_lem p q hp hq)
 
-pub difference-said : (p q : ℕ) → p < 65536 → q < 65536 → alu.subtracted p q ≡ subtracted p q
-difference-said p q hp hq = ap (λ (x : Bool). all (p ⊖ q) (leb q p) x) (difference-overflows p q hp hq)
+pub difference_said : (p q : ℕ) → p < 65536 → q < 65536 → alu.subtracted p q ≡ subtracted p q
+difference_said p q hp hq = ap (λ (x : Bool). all (p ⊖ q) (leb q p) x) (difference_overflows_lem p q hp hq)
 
-pub instructions-exactly : InstructionsExactly
-unfolding table costOf conjunction disjunction exclusive
-instructions-exactly c M least most going due room words t a b u q ht ha hb hu hq =
+pub instructions_exactly : InstructionsExactly
+unfolding table cost_of conjunction disjunction exclusive
+instructions_exactly c M least most going due room words t a b u q ht ha hb hu hq =
     let ra : R c M a < 65536 = words a in
     let rb : R c M b < 65536 = words b in
     let rt : R c M t < 65536 = words t in
@@ -185,12 +185,12 @@ instructions-exactly c M least most going due room words t a b u q ht ha hb hu h
     let f = c.flags in
     record {
       ADD = setting _ t _ _ (sum_said (R c M a) (R c M b) ra rb) (row 0x0 t a b (lit< tt) ht ha hb);
-      SUB = setting _ t _ _ (difference-said (R c M a) (R c M b) ra rb) (row 0x1 t a b (lit< tt) ht ha hb);
+      SUB = setting _ t _ _ (difference_said (R c M a) (R c M b) ra rb) (row 0x1 t a b (lit< tt) ht ha hb);
       AND = row 0x2 t a b (lit< tt) ht ha hb;
       OR = row 0x3 t a b (lit< tt) ht ha hb;
       XOR = row 0x4 t a b (lit< tt) ht ha hb;
       ADDI = setting _ t _ _ (sum_said (R c M t) (k a b) rt hk) (byte 0x5 t a b (alu.added (R c M t)) (lit< tt) ht ha hb refl);
-      SUBI = setting _ t _ _ (difference-said (R c M t) (k a b) rt hk) (byte 0x6 t a b (alu.subtracted (R c M t)) (lit< tt) ht ha hb refl);
+      SUBI = setting _ t _ _ (difference_said (R c M t) (k a b) rt hk) (byte 0x6 t a b (alu.subtracted (R c M t)) (lit< tt) ht ha hb refl);
       LDL = byte 0x7 t a b (λ x. plain f (R c M t / 256 * 256 + x)) (lit< tt) ht ha hb refl;
       LDH = byte 0x8 t a b (λ x. plain f (x * 256 + R c M t % 256)) (lit< tt) ht ha hb refl;
       LD = row 0x9 t a b (lit< tt) ht ha hb;
@@ -224,9 +224,9 @@ instructions-exactly c M least most going due room words t a b u q ht ha hb hu h
       JMPCD = short 0xE a b u 2 f.c (lit< tt) ha hb hu (lit< tt) refl;
       JMPVD = short 0xE a b u 3 f.v (lit< tt) ha hb hu (lit< tt) refl;
       JSRD = long c M least most going due room t a b ht ha hb;
-      undefined = λ o n. none o t a b (fields.digit-o o b n) ht ha hb (fields.no_kind o b (t / 4) n);
+      undefined = λ o n. none o t a b (fields.digit_o o b n) ht ha hb (fields.no_kind o b (t / 4) n);
     }
 
-pub every-word : EveryWord
+pub every_word : EveryWord
 unfolding word
-every-word = (λ w h. omega arith, λ w h. (omega arith, omega arith, omega arith, omega arith), λ t h. (omega arith, omega arith, omega arith))
+every_word = (λ w h. omega arith, λ w h. (omega arith, omega arith, omega arith, omega arith), λ t h. (omega arith, omega arith, omega arith))

@@ -4,12 +4,12 @@
 use Rattle.std.specs.Prelude.{◌≡◌, Bool, true, false, cond, List, ℕ, ◌+◌, ◌-◌, ◌*◌, ◌/◌, ◌%◌, ◌<◌, set, get_or}
 use Rattle.std.specs.Int.Bits.{bit_and, bit_or, bit_xor}
 use Rattle.alu.specs.declared.Outcome.{Outcome}
-use Rattle.effects.specs.Hidden.{withIr, withRaRb, withRalu}
+use Rattle.effects.specs.Hidden.{with_ir, with_ra_rb, with_ralu}
 use Rattle.effects.specs.declared.Stop.{Stop}
 use Rattle.effects.specs.declared.Stop.TheVariants.{Halted, Undefined}
 use Rattle.effects.specs.declared.Store.TheVariants.{Nothing, Word}
-use Rattle.r8_core.specs.Cores.{with_regs, withPc, withSp, with_flags, withHidden, withDue, stopped, withClock}
-use Rattle.r8_core.specs.Datapath.{cycleOrIdle}
+use Rattle.r8_core.specs.Cores.{with_regs, with_pc, with_sp, with_flags, with_hidden, with_due, stopped, with_clock}
+use Rattle.r8_core.specs.Datapath.{cycle_or_idle}
 use Rattle.r8_core.specs.declared.Core.{Core}
 use Rattle.r8_core.specs.declared.Transition.{Transition}
 use Rattle.reference.specs.Notation.{word, NoInstruction, k, d10, d12, ◌⊕◌, ◌⊖◌, added, subtracted, NZ, plain, ◌▹◌}
@@ -22,35 +22,35 @@ abbrev pub set_m : ℕ → ℕ → Transition → Transition
 set_m x v s = record { core = s.core; finished = s.finished; store = Word x v }
 
 -- 'Rt takes ..', 'PC takes ..', 'SP takes ..', 'RALU takes ..' with the flags; 'IR takes ..'; 'Ra takes ..; RB takes ..'; 'stop'
-abbrev pub setR : ℕ → ℕ → Transition → Transition
-setR t x = on (λ c. with_regs (set c.regs t x) c)
+abbrev pub set_r : ℕ → ℕ → Transition → Transition
+set_r t x = on (λ c. with_regs (set c.regs t x) c)
 
-abbrev pub setPC : ℕ → Transition → Transition
-setPC x = on (withPc x)
+abbrev pub set_pc : ℕ → Transition → Transition
+set_pc x = on (with_pc x)
 
-abbrev pub setSP : ℕ → Transition → Transition
-setSP x = on (withSp x)
+abbrev pub set_sp : ℕ → Transition → Transition
+set_sp x = on (with_sp x)
 
-abbrev pub setRALU : Outcome → Transition → Transition
-setRALU x = on (λ c. with_flags x.flags (withHidden (withRalu x.value c.hidden) c))
+abbrev pub set_ralu : Outcome → Transition → Transition
+set_ralu x = on (λ c. with_flags x.flags (with_hidden (with_ralu x.value c.hidden) c))
 
-abbrev pub setIR : ℕ → Transition → Transition
-setIR w = on (λ c. withHidden (withIr w c.hidden) c)
+abbrev pub set_ir : ℕ → Transition → Transition
+set_ir w = on (λ c. with_hidden (with_ir w c.hidden) c)
 
-abbrev pub setRAB : ℕ → ℕ → Transition → Transition
-setRAB p q = on (λ c. withHidden (withRaRb p q c.hidden) c)
+abbrev pub set_rab : ℕ → ℕ → Transition → Transition
+set_rab p q = on (λ c. with_hidden (with_ra_rb p q c.hidden) c)
 
-abbrev pub setStop : Stop → Transition → Transition
-setStop stop = on (stopped stop)
+abbrev pub set_stop : Stop → Transition → Transition
+set_stop stop = on (stopped stop)
 
 module _ (c : Core) (M : List ℕ) where
   -- 'Each cycle adds 1 to the clock': the core is else as it was, with that cycle due; or 'The last cycle .. counts it as finished and makes
   -- cycle 1 due'
   abbrev pub due : ℕ → Transition
-  due n = record { core = withClock (c.clock.0 + 1) (withDue n c); finished = false; store = Nothing }
+  due n = record { core = with_clock (c.clock.0 + 1) (with_due n c); finished = false; store = Nothing }
 
   abbrev pub ends : Transition
-  ends = record { core = withClock (c.clock.0 + 1) (withDue 1 c); finished = true; store = Nothing }
+  ends = record { core = with_clock (c.clock.0 + 1) (with_due 1 c); finished = true; store = Nothing }
 
   -- what the rows speak of, as it is before the cycle; PC is one past the instruction from cycle 2 on
   abbrev pub R : ℕ → ℕ
@@ -76,11 +76,11 @@ module _ (c : Core) (M : List ℕ) where
 
   -- cycle 2: 'Ra takes Ra', and RB takes the register i
   abbrev pub latch : ℕ → ℕ → Transition
-  latch a i = due 3 ▹ setRAB (R a) (R i)
+  latch a i = due 3 ▹ set_rab (R a) (R i)
 
   -- cycle 3: RALU takes a result, with its flags, with N and Z, or with none
   abbrev pub alu : Outcome → Transition
-  alu x = due 4 ▹ setRALU x
+  alu x = due 4 ▹ set_ralu x
 
   abbrev pub nz : ℕ → Transition
   nz r = alu (NZ c.flags r)
@@ -90,28 +90,28 @@ module _ (c : Core) (M : List ℕ) where
 
   -- of a jump to x: where the condition does not hold, it ends here
   abbrev pub aim : Bool → ℕ → Transition
-  aim condition x = cond condition (value x) (ends ▹ setRALU (plain c.flags x))
+  aim condition x = cond condition (value x) (ends ▹ set_ralu (plain c.flags x))
 
   -- cycle 4: 'Rt takes RALU'; of a jump, where the condition holds at that moment, 'PC takes RALU'; of a call, 'M(SP) takes PC, SP-1, PC
   -- takes RALU'
   abbrev pub back : ℕ → Transition
-  back t = ends ▹ setR t RALU
+  back t = ends ▹ set_r t RALU
 
   abbrev pub jump : Bool → Transition
-  jump condition = cond condition (ends ▹ setPC RALU) ends
+  jump condition = cond condition (ends ▹ set_pc RALU) ends
 
   abbrev pub call : Transition
-  call = ends ▹ set_m SP PC ▹ setSP (SP ⊖ 1) ▹ setPC RALU
+  call = ends ▹ set_m SP PC ▹ set_sp (SP ⊖ 1) ▹ set_pc RALU
 
   -- with w in IR, cycles 2, 3 and 4 give these
   pub record Row (w : ℕ) (two three four : Transition) : Type 0 where
-    pub second : c.hidden.ir ≡ w → c.due ≡ 2 → cycleOrIdle M c ≡ two
-    pub third : c.hidden.ir ≡ w → c.due ≡ 3 → cycleOrIdle M c ≡ three
-    pub fourth : c.hidden.ir ≡ w → c.due ≡ 4 → cycleOrIdle M c ≡ four
+    pub second : c.hidden.ir ≡ w → c.due ≡ 2 → cycle_or_idle M c ≡ two
+    pub third : c.hidden.ir ≡ w → c.due ≡ 3 → cycle_or_idle M c ≡ three
+    pub fourth : c.hidden.ir ≡ w → c.due ≡ 4 → cycle_or_idle M c ≡ four
 
   -- for all digits t, a, b; u is bits 9-8 of D and E, and q bits 11-10 of D. A row's word, then its cycles 2, 3 and 4
   pub record Cycles (t a b u q : ℕ) : Type 0 where
-    pub fetch : c.due ≡ 1 → cycleOrIdle M c ≡ due 2 ▹ setIR (at PC) ▹ setPC (PC ⊕ 1)
+    pub fetch : c.due ≡ 1 → cycle_or_idle M c ≡ due 2 ▹ set_ir (at PC) ▹ set_pc (PC ⊕ 1)
     pub ADD : Row (word 0x0 t a b) (latch a b) (alu (added Ra RB)) (back t)
     pub SUB : Row (word 0x1 t a b) (latch a b) (alu (subtracted Ra RB)) (back t)
     pub AND : Row (word 0x2 t a b) (latch a b) (nz (bit_and Ra RB)) (back t)
@@ -121,7 +121,7 @@ module _ (c : Core) (M : List ℕ) where
     pub SUBI : Row (word 0x6 t a b) (latch a t) (alu (subtracted RB (k a b))) (back t)
     pub LDL : Row (word 0x7 t a b) (latch a t) (value (RB / 256 * 256 + k a b)) (back t)
     pub LDH : Row (word 0x8 t a b) (latch a t) (value (k a b * 256 + RB % 256)) (back t)
-    pub LD : Row (word 0x9 t a b) (latch a b) (value (Ra ⊕ RB)) (ends ▹ setR t (at RALU))
+    pub LD : Row (word 0x9 t a b) (latch a b) (value (Ra ⊕ RB)) (ends ▹ set_r t (at RALU))
     pub ST : Row (word 0xA t a b) (latch a b) (value (Ra ⊕ RB)) (ends ▹ set_m RALU (R t))
     pub SL0 : Row (word 0xB t a 0x0) (latch a 0x0) (nz (Ra * 2 % 65536)) (back t)
     pub SL1 : Row (word 0xB t a 0x1) (latch a 0x1) (nz ((Ra * 2 + 1) % 65536)) (back t)
@@ -129,33 +129,33 @@ module _ (c : Core) (M : List ℕ) where
     pub SR1 : Row (word 0xB t a 0x3) (latch a 0x3) (nz (32768 + Ra / 2)) (back t)
     pub NOT : Row (word 0xB t a 0x4) (latch a 0x4) (nz (65535 - Ra)) (back t)
     pub NOP : Row (word 0xB t a 0x5) (latch a 0x5) ends ends
-    pub HALT : Row (word 0xB t a 0x6) (ends ▹ setStop Halted) ends ends
-    pub LDSP : Row (word 0xB t a 0x7) (latch a 0x7) (value Ra) (ends ▹ setSP RALU)
-    pub RTS : Row (word 0xB t a 0x8) (latch a 0x8) (value (SP ⊕ 1)) (ends ▹ setPC (at RALU) ▹ setSP RALU)
-    pub POP : Row (word 0xB t a 0x9) (latch a 0x9) (value (SP ⊕ 1)) (ends ▹ setR t (at RALU) ▹ setSP RALU)
-    pub PUSH : Row (word 0xB t a 0xA) (latch a t) (value RB) (ends ▹ set_m SP RB ▹ setSP (SP ⊖ 1))
-    pub JMPR : Row (word 0xC t a 0x0) (latch a 0x0) (value (PC ⊕ Ra)) (ends ▹ setPC RALU)
+    pub HALT : Row (word 0xB t a 0x6) (ends ▹ set_stop Halted) ends ends
+    pub LDSP : Row (word 0xB t a 0x7) (latch a 0x7) (value Ra) (ends ▹ set_sp RALU)
+    pub RTS : Row (word 0xB t a 0x8) (latch a 0x8) (value (SP ⊕ 1)) (ends ▹ set_pc (at RALU) ▹ set_sp RALU)
+    pub POP : Row (word 0xB t a 0x9) (latch a 0x9) (value (SP ⊕ 1)) (ends ▹ set_r t (at RALU) ▹ set_sp RALU)
+    pub PUSH : Row (word 0xB t a 0xA) (latch a t) (value RB) (ends ▹ set_m SP RB ▹ set_sp (SP ⊖ 1))
+    pub JMPR : Row (word 0xC t a 0x0) (latch a 0x0) (value (PC ⊕ Ra)) (ends ▹ set_pc RALU)
     pub JMPNR : Row (word 0xC t a 0x1) (latch a 0x1) (aim c.flags.n (PC ⊕ Ra)) (jump c.flags.n)
     pub JMPZR : Row (word 0xC t a 0x2) (latch a 0x2) (aim c.flags.z (PC ⊕ Ra)) (jump c.flags.z)
     pub JMPCR : Row (word 0xC t a 0x3) (latch a 0x3) (aim c.flags.c (PC ⊕ Ra)) (jump c.flags.c)
     pub JMPVR : Row (word 0xC t a 0x4) (latch a 0x4) (aim c.flags.v (PC ⊕ Ra)) (jump c.flags.v)
-    pub JMP : Row (word 0xC t a 0x5) (latch a 0x5) (value Ra) (ends ▹ setPC RALU)
+    pub JMP : Row (word 0xC t a 0x5) (latch a 0x5) (value Ra) (ends ▹ set_pc RALU)
     pub JMPN : Row (word 0xC t a 0x6) (latch a 0x6) (aim c.flags.n Ra) (jump c.flags.n)
     pub JMPZ : Row (word 0xC t a 0x7) (latch a 0x7) (aim c.flags.z Ra) (jump c.flags.z)
     pub JMPC : Row (word 0xC t a 0x8) (latch a 0x8) (aim c.flags.c Ra) (jump c.flags.c)
     pub JMPV : Row (word 0xC t a 0x9) (latch a 0x9) (aim c.flags.v Ra) (jump c.flags.v)
     pub JSRR : Row (word 0xC t a 0xA) (latch a 0xA) (value (PC ⊕ Ra)) call
     pub JSR : Row (word 0xC t a 0xB) (latch a 0xB) (value Ra) call
-    pub JMPD : Row (word 0xD (q * 4 + u) a b) (latch a b) (value (PC ⊕ d10 u a b)) (ends ▹ setPC RALU)
+    pub JMPD : Row (word 0xD (q * 4 + u) a b) (latch a b) (value (PC ⊕ d10 u a b)) (ends ▹ set_pc RALU)
     pub JMPND : Row (word 0xE (0x0 + u) a b) (latch a b) (aim c.flags.n (PC ⊕ d10 u a b)) (jump c.flags.n)
     pub JMPZD : Row (word 0xE (0x4 + u) a b) (latch a b) (aim c.flags.z (PC ⊕ d10 u a b)) (jump c.flags.z)
     pub JMPCD : Row (word 0xE (0x8 + u) a b) (latch a b) (aim c.flags.c (PC ⊕ d10 u a b)) (jump c.flags.c)
     pub JMPVD : Row (word 0xE (0xC + u) a b) (latch a b) (aim c.flags.v (PC ⊕ d10 u a b)) (jump c.flags.v)
     pub JSRD : Row (word 0xF t a b) (latch a b) (value (PC ⊕ d12 t a b)) call
-    pub undefined : (o : ℕ) → NoInstruction o b → Row (word o t a b) (ends ▹ setStop Undefined) ends ends
+    pub undefined : (o : ℕ) → NoInstruction o b → Row (word o t a b) (ends ▹ set_stop Undefined) ends ends
 
 -- the page: of every core whose clock has room for a cycle and whose Ra and RB are words, also one that is stopped, on every memory (proved as
--- `cycles-exactly`)
+-- `cycles_exactly`)
 abbrev pub CyclesExactly : Type 0
 CyclesExactly =
     (c : Core) (M : List ℕ) → c.clock.0 < 4294967295 → c.hidden.ra < 65536 → c.hidden.rb < 65536

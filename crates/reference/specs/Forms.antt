@@ -5,14 +5,14 @@ use Rattle.isa.specs.declared.ConstantOp.TheVariants.{Addi, Subi, Ldl, Ldh}
 use Rattle.isa.specs.declared.UnaryOp.TheVariants.{Sl0, Sl1, Sr0, Sr1, Not}
 use Rattle.isa.specs.declared.Condition.TheVariants.{Always, Negative, Zero, Carry, Overflow}
 use Rattle.forms.specs.Answers.{given, refused}
-use Rattle.forms.specs.Reading.{wordToForm}
+use Rattle.forms.specs.Reading.{word_to_form}
 use Rattle.forms.specs.declared.Form.{Form}
 use Rattle.reference.specs.Notation.{word, NoInstruction, k, s10, s12}
 
 -- the word w has this form
 infix 10 ◌is◌
 abbrev pub ◌is◌ : ℕ → Form → Type 0
-w is form = wordToForm w ≡ given form
+w is form = word_to_form w ≡ given form
 
 -- for all digits t, a, b; u is bits 9-8 of D and E, and q bits 11-10 of D; 6 is 'word undefined'
 pub record Forms (t a b u q : ℕ) : Type 0 where
@@ -56,8 +56,8 @@ pub record Forms (t a b u q : ℕ) : Type 0 where
   pub JMPCD : word 0xE (0x8 + u) a b is Form.JumpDisplaced Carry (s10 u a b)
   pub JMPVD : word 0xE (0xC + u) a b is Form.JumpDisplaced Overflow (s10 u a b)
   pub JSRD : word 0xF t a b is Form.CallDisplaced (s12 t a b)
-  pub undefined : (o : ℕ) → NoInstruction o b → wordToForm (word o t a b) ≡ refused 6
+  pub undefined : (o : ℕ) → NoInstruction o b → word_to_form (word o t a b) ≡ refused 6
 
--- the page, for all digits (proved as `forms-exactly`)
+-- the page, for all digits (proved as `forms_exactly`)
 abbrev pub FormsExactly : Type 0
 FormsExactly = (t a b u q : ℕ) → t < 16 → a < 16 → b < 16 → u < 4 → q < 4 → Forms t a b u q

@@ -1,6 +1,6 @@
 // Why a call is refused before it starts, the number of each refusal, and the first that applies.
 ghost use Rattle.std.specs.Prelude.{◌≡◌};
-ghost use Rattle.refusals.specs.Refusals.{refusalNumber, wrongLength, or_else};
+ghost use Rattle.refusals.specs.Refusals.{refusal_number, wrong_length, or_else};
 ghost use Rattle.refusals.specs.declared.Verdict.TheVariants.{Taken};
 
 // Numbers 1, 7, 8, 9 and 10.
@@ -22,7 +22,7 @@ pub enum Verdict {
 
 // The numbers of documents 01 and 02.
 pub fn number(why: Refusal) -> u8
-    ensures { result ≡ refusalNumber why }
+    ensures { result ≡ refusal_number why }
 {
     match why {
         Refusal::WrongLength => 1,
@@ -34,7 +34,7 @@ pub fn number(why: Refusal) -> u8
 }
 
 pub fn wrong_length(length: usize) -> bool
-    ensures { result ≡ wrongLength length }
+    ensures { result ≡ wrong_length length }
 {
     if length == 0 {
         return true;

@@ -4,94 +4,94 @@ use mathlib.Core.List.{List, [], ◌∷◌, ◌++◌}
 use Prim.Native.Nat.{ℕ, ◌+◌, ◌-◌, ◌*◌, ◌<◌, ◌≤◌}
 use native.Mathlib.Omega.{arith}
 use lib.ListN.{length, take, drop, length-append}
-use Rattle.r8_core.specs.Cores.{visibleOf, freshCore}
-use Rattle.r8_core.specs.Spent.{spentOf}
+use Rattle.r8_core.specs.Cores.{visible_of, fresh_core}
+use Rattle.r8_core.specs.Spent.{spent_of}
 use Rattle.r8_core.specs.Calls.{Answer}
 use Rattle.r8_core.specs.declared.Core.{Core}
-use Rattle.layout.specs.Layout.{answerNumbers, ontoIfRoom, NumberedReply, numbered}
-use Rattle.layout.proofs.Sizes.{numbers-size, left-size}
-use Rattle.layout.proofs.Onto.{in-two-parts}
+use Rattle.layout.specs.Layout.{answer_numbers, onto_if_room, NumberedReply, numbered}
+use Rattle.layout.proofs.Sizes.{numbers_size, left_size}
+use Rattle.layout.proofs.Onto.{in_two_parts}
 use Rattle.plays.specs.Plays.{play}
-use Rattle.machine.specs.Theorem.{Call, State, state, replyTo, onCore}
-use Rattle.replay.specs.Replay.{Reading, listed, noCall, noStretch, following, readThen, readFrom, readCalls, numbersThen}
+use Rattle.machine.specs.Theorem.{Call, State, state, reply_to, on_core}
+use Rattle.replay.specs.Replay.{Reading, listed, no_call, no_stretch, following, read_then, read_from, read_calls, numbers_then}
 use Rattle.replay.specs.declared.ReadCall.{ReadCall}
 use Rattle.replay.proofs.Readings.{reads_at, none_left}
-use Rattle.replay.specs.ReplayParts.{frontCall, Playable, AfterPlay, afterPlay, coreLeft, coreNumbers, corePlayed}
+use Rattle.replay.specs.ReplayParts.{front_call, Playable, AfterPlay, after_play, core_left, core_numbers, core_played}
 
 -- a list that can be played is read as calls, and there are places enough
 pub playable : (r : Reading) (room : ℕ) → Playable r room
     → (calls : List Call) × (r ≡ listed calls) × (23 * (length calls + 1) ≤ room)
 playable (listed calls) room h = (calls, refl, h)
-playable (noCall i) room h = absurd h
-playable (noStretch i) room h = absurd h
+playable (no_call i) room h = absurd h
+playable (no_stretch i) room h = absurd h
 
-pub no-call-listed : (calls : List Call) (i : ℕ) → noCall i ≡ listed calls → ⊥
-no-call-listed calls i e = let z : ◌≡◌ {A = ℕ} 0 1 = cc in omega arith
+pub no_call_listed : (calls : List Call) (i : ℕ) → no_call i ≡ listed calls → ⊥
+no_call_listed calls i e = let z : ◌≡◌ {A = ℕ} 0 1 = cc in omega arith
 
-pub no-stretch-listed : (calls : List Call) (i : ℕ) → noStretch i ≡ listed calls → ⊥
-no-stretch-listed calls i e = let z : ◌≡◌ {A = ℕ} 0 1 = cc in omega arith
+pub no_stretch_listed : (calls : List Call) (i : ℕ) → no_stretch i ≡ listed calls → ⊥
+no_stretch_listed calls i e = let z : ◌≡◌ {A = ℕ} 0 1 = cc in omega arith
 
 -- calls of which the first is known, and those behind it
-split-first : (call : Call) (r : Reading) (calls : List Call) → following call r ≡ listed calls
+split_first : (call : Call) (r : Reading) (calls : List Call) → following call r ≡ listed calls
     → (rest : List Call) × (r ≡ listed rest) × (calls ≡ call ∷ rest)
-split-first call (listed rest) calls e = (rest, refl, cc)
-split-first call (noCall i) calls e = absurd (no-call-listed calls i e)
-split-first call (noStretch i) calls e = absurd (no-stretch-listed calls i e)
+split_first call (listed rest) calls e = (rest, refl, cc)
+split_first call (no_call i) calls e = absurd (no_call_listed calls i e)
+split_first call (no_stretch i) calls e = absurd (no_stretch_listed calls i e)
 
 -- how many numbers are written of a play
-pub numbers-length : (calls : List Call) (s : State) → length (coreNumbers (play onCore calls s)) ≡ 23 * (length calls + 1)
-unfolding play numbersThen
-numbers-length [] s = left-size (visibleOf s.core) (spentOf s.core) s.core.clock.0
-numbers-length (call ∷ rest) s =
-    let next = onCore call s in
-    let more = coreNumbers (play onCore rest next.1) in
-    let after : length more ≡ 23 * (length rest + 1) = numbers-length rest next.1 in
-    let first : length (answerNumbers next.0) ≡ 23 = numbers-size next.0 in
-    length-append (answerNumbers next.0) more ∙ omega arith
+pub numbers_length : (calls : List Call) (s : State) → length (core_numbers (play on_core calls s)) ≡ 23 * (length calls + 1)
+unfolding play numbers_then
+numbers_length [] s = left_size (visible_of s.core) (spent_of s.core) s.core.clock.0
+numbers_length (call ∷ rest) s =
+    let next = on_core call s in
+    let more = core_numbers (play on_core rest next.1) in
+    let after : length more ≡ 23 * (length rest + 1) = numbers_length rest next.1 in
+    let first : length (answer_numbers next.0) ≡ 23 = numbers_size next.0 in
+    length-append (answer_numbers next.0) more ∙ omega arith
 
 -- what a play of some calls leaves, with its numbers written from a place on
 abbrev from : List Call → State → List ℕ → ℕ → AfterPlay
 from calls s answers to =
     record {
-      memory = (play onCore calls s).1.memory;
-      answers = take to answers ++ ontoIfRoom (coreNumbers (play onCore calls s)) (drop to answers);
+      memory = (play on_core calls s).1.memory;
+      answers = take to answers ++ onto_if_room (core_numbers (play on_core calls s)) (drop to answers);
     }
 
 -- the first of them played, with its reply's numbers
 from_next : (call : Call) (rest : List Call) (s : State) (answers : List ℕ) (to : ℕ) (reply : NumberedReply)
-    → reply ≡ numbered (replyTo call s.core s.memory) → to + 23 * (length (call ∷ rest) + 1) ≤ length answers
+    → reply ≡ numbered (reply_to call s.core s.memory) → to + 23 * (length (call ∷ rest) + 1) ≤ length answers
     → from (call ∷ rest) s answers to
-    ≡ from rest (state reply.core reply.memory) (take to answers ++ ontoIfRoom reply.numbers (drop to answers)) (to + 23)
-unfolding play numbersThen
+    ≡ from rest (state reply.core reply.memory) (take to answers ++ onto_if_room reply.numbers (drop to answers)) (to + 23)
+unfolding play numbers_then
 from_next call rest s answers to reply e room =
-    let more = coreNumbers (play onCore rest (state reply.core reply.memory)) in
+    let more = core_numbers (play on_core rest (state reply.core reply.memory)) in
     let size : length reply.numbers ≡ 23 =
-    ap (λ (x : NumberedReply). length x.numbers) e ∙ numbers-size (replyTo call s.core s.memory).answer in
-    let after : length more ≡ 23 * (length rest + 1) = numbers-length rest (state reply.core reply.memory) in
-    let next = take to answers ++ ontoIfRoom reply.numbers (drop to answers) in
+    ap (λ (x : NumberedReply). length x.numbers) e ∙ numbers_size (reply_to call s.core s.memory).answer in
+    let after : length more ≡ 23 * (length rest + 1) = numbers_length rest (state reply.core reply.memory) in
+    let next = take to answers ++ onto_if_room reply.numbers (drop to answers) in
     ap
-    (λ (x : NumberedReply). let played : List Answer × State = play onCore rest (state x.core x.memory) in
-    afterPlay played.1.memory (take to answers ++ ontoIfRoom (x.numbers ++ coreNumbers played) (drop to answers)))
+    (λ (x : NumberedReply). let played : List Answer × State = play on_core rest (state x.core x.memory) in
+    after_play played.1.memory (take to answers ++ onto_if_room (x.numbers ++ core_numbers played) (drop to answers)))
     (sym e)
-    ∙ ap (afterPlay (play onCore rest (state reply.core reply.memory)).1.memory)
-    (in-two-parts reply.numbers more answers to (omega arith)
-    ∙ ap (λ (n : ℕ). take (to + n) next ++ ontoIfRoom more (drop (to + n) next)) size)
+    ∙ ap (after_play (play on_core rest (state reply.core reply.memory)).1.memory)
+    (in_two_parts reply.numbers more answers to (omega arith)
+    ∙ ap (λ (n : ℕ). take (to + n) next ++ onto_if_room more (drop (to + n) next)) size)
 
 -- a play under way: the calls left, from the core, memory and answers reached, give what the whole list gives
 pub record Reached (text calls memory₀ answers₀ : List ℕ) (core : Core) (memory answers : List ℕ) (at to : ℕ) : Type 0 where
   pub i : ℕ
   pub left : List Call
-  pub reads : readFrom text i (drop at calls) ≡ listed left
+  pub reads : read_from text i (drop at calls) ≡ listed left
   pub within : at ≤ length calls
   pub room : to + 23 * (length left + 1) ≤ length answers
   pub size : length memory ≡ length memory₀
   pub same : length answers ≡ length answers₀
-  pub gives : corePlayed (readCalls text calls) memory₀ answers₀ ≡ from left (state core memory) answers to
+  pub gives : core_played (read_calls text calls) memory₀ answers₀ ≡ from left (state core memory) answers to
 
-pub starts : (text calls memory answers : List ℕ) (core : Core) → core ≡ freshCore → Playable (readCalls text calls) (length answers)
+pub starts : (text calls memory answers : List ℕ) (core : Core) → core ≡ fresh_core → Playable (read_calls text calls) (length answers)
     → Reached text calls memory answers core memory answers 0 0
 starts text calls memory answers core fresh h =
-    let p = playable (readCalls text calls) (length answers) h in
+    let p = playable (read_calls text calls) (length answers) h in
     record {
       i = 0;
       left = p.0;
@@ -101,24 +101,24 @@ starts text calls memory answers core fresh h =
       size = refl;
       same = refl;
       gives =
-          ap (λ (r : Reading). corePlayed r memory answers) p.1
+          ap (λ (r : Reading). core_played r memory answers) p.1
           ∙ ap (λ (c : Core). from p.0 (state c memory) answers 0) (sym fresh);
     }
 
 module _ {text calls memory₀ answers₀ : List ℕ} {core : Core} {memory answers : List ℕ} {at to : ℕ} (r : Reached text calls memory₀ answers₀ core memory answers at to) where
   -- what the next is read as
-  pub reads-next : (x : ReadCall) → at < length calls → x ≡ frontCall (take (length calls - at) (drop at calls)) (length text)
-      → readThen text r.i x (readFrom text (r.i + 1) (drop (at + 3) calls)) ≡ listed r.left
-  reads-next x h e = sym (reads_at text r.i calls at x h e) ∙ r.reads
+  pub reads_next : (x : ReadCall) → at < length calls → x ≡ front_call (take (length calls - at) (drop at calls)) (length text)
+      → read_then text r.i x (read_from text (r.i + 1) (drop (at + 3) calls)) ≡ listed r.left
+  reads_next x h e = sym (reads_at text r.i calls at x h e) ∙ r.reads
 
   -- one call more
   pub goes_on : (call : Call) (reply : NumberedReply) (next : List ℕ) → at + 3 ≤ length calls
-      → following call (readFrom text (r.i + 1) (drop (at + 3) calls)) ≡ listed r.left
-      → reply ≡ numbered (replyTo call core memory) → length reply.memory ≡ length memory
-      → next ≡ take to answers ++ ontoIfRoom reply.numbers (drop to answers) → length next ≡ length answers
+      → following call (read_from text (r.i + 1) (drop (at + 3) calls)) ≡ listed r.left
+      → reply ≡ numbered (reply_to call core memory) → length reply.memory ≡ length memory
+      → next ≡ take to answers ++ onto_if_room reply.numbers (drop to answers) → length next ≡ length answers
       → Reached text calls memory₀ answers₀ reply.core reply.memory next (at + 3) (to + 23)
   goes_on call reply next whole reads e size written same =
-      let s = split-first call (readFrom text (r.i + 1) (drop (at + 3) calls)) r.left reads in
+      let s = split_first call (read_from text (r.i + 1) (drop (at + 3) calls)) r.left reads in
       let room : to + 23 * (length (call ∷ s.0) + 1) ≤ length answers = subst (λ (l : List Call). to + 23 * (length l + 1) ≤ length answers) s.2 r.room in
       record {
         i = r.i + 1;
@@ -140,6 +140,6 @@ module _ {text calls memory₀ answers₀ : List ℕ} {core : Core} {memory answ
   over h = cc (r.reads, none_left text r.i calls at h)
 
   pub ends : length calls ≤ at
-      → corePlayed (readCalls text calls) memory₀ answers₀ ≡ afterPlay memory (take to answers ++ ontoIfRoom (coreLeft core) (drop to answers))
-  unfolding play numbersThen
+      → core_played (read_calls text calls) memory₀ answers₀ ≡ after_play memory (take to answers ++ onto_if_room (core_left core) (drop to answers))
+  unfolding play numbers_then
   ends h = r.gives ∙ ap (λ (l : List Call). from l (state core memory) answers to) (over h)

@@ -9,35 +9,35 @@ use lib.Dec.{leb}
 use lib.ListN.{length, take, drop, get_or, length-drop, drop_of_length-le}
 use lib.Seq.{drop-drop, take_all}
 use Rattle.machine.specs.Theorem.{Call}
-use Rattle.replay.specs.Replay.{readCall, call_of, Reading, listed, noCall, noStretch, following, readThen, readFrom, readCalls}
-use Rattle.replay.specs.ReplayParts.{verdictOf, frontCall, ReadWhole}
+use Rattle.replay.specs.Replay.{read_call, call_of, Reading, listed, no_call, no_stretch, following, read_then, read_from, read_calls}
+use Rattle.replay.specs.ReplayParts.{verdict_of, front_call, ReadWhole}
 use Rattle.replay.specs.declared.ListedCall.{ListedCall}
 use Rattle.replay.specs.declared.ReadCall.{ReadCall}
-use Rattle.replay.specs.declared.ReadCall.TheVariants as readAs
+use Rattle.replay.specs.declared.ReadCall.TheVariants as read_as
 use Rattle.replay.specs.declared.ReplayAnswer.{ReplayAnswer}
 use Rattle.replay.specs.declared.ReplayAnswer.TheVariants.{Played, NoCall, NoStretch, NoRoom}
 
 -- the call at the front, where there are three numbers and where not
-pub front-short : (ns : List ℕ) (size : ℕ) → length ns < 3 → readAs.NoCall ≡ frontCall ns size
-front-short [] size h = refl
-front-short (a ∷ []) size h = refl
-front-short (a ∷ b ∷ []) size h = refl
-front-short (a ∷ b ∷ c ∷ rest) size h = absurd (omega arith)
+pub front_short : (ns : List ℕ) (size : ℕ) → length ns < 3 → read_as.NoCall ≡ front_call ns size
+front_short [] size h = refl
+front_short (a ∷ []) size h = refl
+front_short (a ∷ b ∷ []) size h = refl
+front_short (a ∷ b ∷ c ∷ rest) size h = absurd (omega arith)
 
 pub front_long : (ns : List ℕ) (size : ℕ) → 3 ≤ length ns
-    → readCall (get_or ns 0 0) (get_or ns 1 0) (get_or ns 2 0) size ≡ frontCall ns size
+    → read_call (get_or ns 0 0) (get_or ns 1 0) (get_or ns 2 0) size ≡ front_call ns size
 front_long [] size h = absurd (omega arith)
 front_long (a ∷ []) size h = absurd (omega arith)
 front_long (a ∷ b ∷ []) size h = absurd (omega arith)
 front_long (a ∷ b ∷ c ∷ rest) size h = refl
 
-pub whole-when : (n : ℕ) (r : ReadCall) → 3 ≤ n → ReadWhole n r
-whole-when n (readAs.Read call) h = h
-whole-when n readAs.NoCall h = tt
-whole-when n readAs.NoStretch h = tt
+pub whole_when : (n : ℕ) (r : ReadCall) → 3 ≤ n → ReadWhole n r
+whole_when n (read_as.Read call) h = h
+whole_when n read_as.NoCall h = tt
+whole_when n read_as.NoStretch h = tt
 
 -- what is read as a call from a place on is three numbers
-pub read_whole : (ns : List ℕ) (at : ℕ) (r : ReadCall) (call : ListedCall) → at ≤ length ns → r ≡ readAs.Read call
+pub read_whole : (ns : List ℕ) (at : ℕ) (r : ReadCall) (call : ListedCall) → at ≤ length ns → r ≡ read_as.Read call
     → ReadWhole (length (take (length ns - at) (drop at ns))) r
     → at + 3 ≤ length ns
 read_whole ns at r call h e whole =
@@ -48,8 +48,8 @@ read_whole ns at r call h e whole =
 
 -- numbers are read as the call at their front and what follows it
 pub reads_on : (text : List ℕ) (i : ℕ) (ns : List ℕ) → 0 < length ns
-    → readFrom text i ns ≡ readThen text i (frontCall ns (length text)) (readFrom text (i + 1) (drop 3 ns))
-unfolding readFrom
+    → read_from text i ns ≡ read_then text i (front_call ns (length text)) (read_from text (i + 1) (drop 3 ns))
+unfolding read_from
 reads_on text i [] h = absurd (omega arith)
 reads_on text i (a ∷ []) h = refl
 reads_on text i (a ∷ b ∷ []) h = refl
@@ -57,72 +57,72 @@ reads_on text i (a ∷ b ∷ c ∷ rest) h = refl
 
 -- of a list, from a place on, with what its front was read as
 pub reads_at : (text : List ℕ) (i : ℕ) (ns : List ℕ) (at : ℕ) (r : ReadCall) → at < length ns
-    → r ≡ frontCall (take (length ns - at) (drop at ns)) (length text)
-    → readFrom text i (drop at ns) ≡ readThen text i r (readFrom text (i + 1) (drop (at + 3) ns))
+    → r ≡ front_call (take (length ns - at) (drop at ns)) (length text)
+    → read_from text i (drop at ns) ≡ read_then text i r (read_from text (i + 1) (drop (at + 3) ns))
 reads_at text i ns at r h e =
     let size : length (drop at ns) ≡ length ns - at = length-drop at ns in
     let part : take (length ns - at) (drop at ns) ≡ drop at ns = take_all (length ns - at) (drop at ns) (omega arith) in
     reads_on text i (drop at ns) (omega arith)
-    ∙ ap (λ (x : ReadCall). readThen text i x (readFrom text (i + 1) (drop 3 (drop at ns)))) (sym (e ∙ ap (λ (l : List ℕ). frontCall l (length text)) part))
-    ∙ ap (λ (l : List ℕ). readThen text i r (readFrom text (i + 1) l)) (drop-drop 3 at ns)
+    ∙ ap (λ (x : ReadCall). read_then text i x (read_from text (i + 1) (drop 3 (drop at ns)))) (sym (e ∙ ap (λ (l : List ℕ). front_call l (length text)) part))
+    ∙ ap (λ (l : List ℕ). read_then text i r (read_from text (i + 1) l)) (drop-drop 3 at ns)
 
-pub none_left : (text : List ℕ) (i : ℕ) (ns : List ℕ) (at : ℕ) → length ns ≤ at → readFrom text i (drop at ns) ≡ listed []
-unfolding readFrom
-none_left text i ns at h = ap (readFrom text i) (drop_of_length-le ns h)
+pub none_left : (text : List ℕ) (i : ℕ) (ns : List ℕ) (at : ℕ) → length ns ≤ at → read_from text i (drop at ns) ≡ listed []
+unfolding read_from
+none_left text i ns at h = ap (read_from text i) (drop_of_length-le ns h)
 
 -- the verdict where n calls were read before
-abbrev pub verdictFrom : ℕ → Reading → ℕ → ReplayAnswer
-verdictFrom n (listed calls) room = cond (leb (23 * (n + length calls + 1)) room) (Played (n + length calls)) NoRoom
-verdictFrom n (noCall i) room = NoCall i
-verdictFrom n (noStretch i) room = NoStretch i
+abbrev pub verdict_from : ℕ → Reading → ℕ → ReplayAnswer
+verdict_from n (listed calls) room = cond (leb (23 * (n + length calls + 1)) room) (Played (n + length calls)) NoRoom
+verdict_from n (no_call i) room = NoCall i
+verdict_from n (no_stretch i) room = NoStretch i
 
-pub verdict-starts : (r : Reading) (room : ℕ) → verdictOf r room ≡ verdictFrom 0 r room
-verdict-starts (listed calls) room =
+pub verdict_starts : (r : Reading) (room : ℕ) → verdict_of r room ≡ verdict_from 0 r room
+verdict_starts (listed calls) room =
     ap (λ (n : ℕ). cond (leb (23 * (n + 1)) room) (Played n) NoRoom) (omega arith)
-verdict-starts (noCall i) room = refl
-verdict-starts (noStretch i) room = refl
+verdict_starts (no_call i) room = refl
+verdict_starts (no_stretch i) room = refl
 
-verdict-goes-on : (n : ℕ) (call : Call) (r : Reading) (room : ℕ) → verdictFrom n (following call r) room ≡ verdictFrom (n + 1) r room
-verdict-goes-on n call (listed calls) room =
+verdict_goes_on : (n : ℕ) (call : Call) (r : Reading) (room : ℕ) → verdict_from n (following call r) room ≡ verdict_from (n + 1) r room
+verdict_goes_on n call (listed calls) room =
     ap (λ (m : ℕ). cond (leb (23 * (m + 1)) room) (Played m) NoRoom) (omega arith)
-verdict-goes-on n call (noCall i) room = refl
-verdict-goes-on n call (noStretch i) room = refl
+verdict_goes_on n call (no_call i) room = refl
+verdict_goes_on n call (no_stretch i) room = refl
 
 -- n calls and no more
-verdict-room : (n room : ℕ) → 23 * (n + 1) ≤ room → verdictFrom n (listed []) room ≡ Played n
-verdict-room n room h =
+verdict_room : (n room : ℕ) → 23 * (n + 1) ≤ room → verdict_from n (listed []) room ≡ Played n
+verdict_room n room h =
     ap (λ (m : ℕ). cond (leb (23 * (m + 1)) room) (Played m) NoRoom) (omega arith) ∙ ap (λ (b : Bool). cond b (Played n) NoRoom) (le-leb _ _ h)
 
-verdict-no-room : (n room : ℕ) → room < 23 * (n + 1) → verdictFrom n (listed []) room ≡ NoRoom
-verdict-no-room n room h =
+verdict_no_room : (n room : ℕ) → room < 23 * (n + 1) → verdict_from n (listed []) room ≡ NoRoom
+verdict_no_room n room h =
     ap (λ (m : ℕ). cond (leb (23 * (m + 1)) room) (Played m) NoRoom) (omega arith) ∙ ap (λ (b : Bool). cond b (Played n) NoRoom) (lt-leb _ _ h)
 
 -- a check under way: the verdict on what is left, with the i calls passed, is that on the whole list
 pub record Passed (text calls : List ℕ) (room at i : ℕ) : Type 0 where
   pub within : at ≤ length calls
   pub few : i ≤ at
-  pub same : verdictOf (readCalls text calls) room ≡ verdictFrom i (readFrom text i (drop at calls)) room
+  pub same : verdict_of (read_calls text calls) room ≡ verdict_from i (read_from text i (drop at calls)) room
 
 module _ {text calls : List ℕ} {room at i : ℕ} (p : Passed text calls room at i) where
-  pub finds : (r : ReadCall) → at < length calls → r ≡ frontCall (take (length calls - at) (drop at calls)) (length text)
-      → verdictOf (readCalls text calls) room ≡ verdictFrom i (readThen text i r (readFrom text (i + 1) (drop (at + 3) calls))) room
-  finds r h e = p.same ∙ ap (λ (x : Reading). verdictFrom i x room) (reads_at text i calls at r h e)
+  pub finds : (r : ReadCall) → at < length calls → r ≡ front_call (take (length calls - at) (drop at calls)) (length text)
+      → verdict_of (read_calls text calls) room ≡ verdict_from i (read_then text i r (read_from text (i + 1) (drop (at + 3) calls))) room
+  finds r h e = p.same ∙ ap (λ (x : Reading). verdict_from i x room) (reads_at text i calls at r h e)
 
   -- one call more
   pub passes : (call : ListedCall) → at < length calls → at + 3 ≤ length calls
-      → readAs.Read call ≡ frontCall (take (length calls - at) (drop at calls)) (length text) → Passed text calls room (at + 3) (i + 1)
+      → read_as.Read call ≡ front_call (take (length calls - at) (drop at calls)) (length text) → Passed text calls room (at + 3) (i + 1)
   passes call h whole e = record {
     within = whole;
     few = omega (arith, p.few);
-    same = finds (readAs.Read call) h e ∙ verdict-goes-on i (call_of text call) (readFrom text (i + 1) (drop (at + 3) calls)) room;
+    same = finds (read_as.Read call) h e ∙ verdict_goes_on i (call_of text call) (read_from text (i + 1) (drop (at + 3) calls)) room;
   }
 
   -- no call left
-  ended : length calls ≤ at → verdictOf (readCalls text calls) room ≡ verdictFrom i (listed []) room
-  ended h = p.same ∙ ap (λ (x : Reading). verdictFrom i x room) (none_left text i calls at h)
+  ended : length calls ≤ at → verdict_of (read_calls text calls) room ≡ verdict_from i (listed []) room
+  ended h = p.same ∙ ap (λ (x : Reading). verdict_from i x room) (none_left text i calls at h)
 
-  pub ends-with-room : length calls ≤ at → 23 * (i + 1) ≤ room → verdictOf (readCalls text calls) room ≡ Played i
-  ends-with-room h fits = ended h ∙ verdict-room i room fits
+  pub ends_with_room : length calls ≤ at → 23 * (i + 1) ≤ room → verdict_of (read_calls text calls) room ≡ Played i
+  ends_with_room h fits = ended h ∙ verdict_room i room fits
 
-  pub ends-without : length calls ≤ at → room < 23 * (i + 1) → verdictOf (readCalls text calls) room ≡ NoRoom
-  ends-without h short = ended h ∙ verdict-no-room i room short
+  pub ends_without : length calls ≤ at → room < 23 * (i + 1) → verdict_of (read_calls text calls) room ≡ NoRoom
+  ends_without h short = ended h ∙ verdict_no_room i room short

@@ -1,76 +1,76 @@
 -- For the functions under `replay`: only contracts of private functions and proofs cite what is here.
 use Rattle.std.specs.Prelude.{cond, List, [], ◌∷◌, ℕ, ◌≤◌, leb, length}
-use Rattle.r8_core.specs.Cores.{visibleOf}
-use Rattle.r8_core.specs.Spent.{spentOf}
+use Rattle.r8_core.specs.Cores.{visible_of}
+use Rattle.r8_core.specs.Spent.{spent_of}
 use Rattle.r8_core.specs.Calls.{Answer}
 use Rattle.r8_core.specs.declared.Core.{Core}
-use Rattle.layout.specs.Layout.{leftNumbers, ontoIfRoom}
+use Rattle.layout.specs.Layout.{left_numbers, onto_if_room}
 use Rattle.plays.specs.Plays.{play}
-use Rattle.machine.specs.Theorem.{State, freshState, onCore}
-use Rattle.replay.specs.Replay.{readCall, Reading, listed, noCall, noStretch, numbersThen, placesFor}
+use Rattle.machine.specs.Theorem.{State, fresh_state, on_core}
+use Rattle.replay.specs.Replay.{read_call, Reading, listed, no_call, no_stretch, numbers_then, places_for}
 use Rattle.replay.specs.declared.ListedCall.{ListedCall}
-use Rattle.replay.specs.declared.ListedCall.TheVariants as listedCall
+use Rattle.replay.specs.declared.ListedCall.TheVariants as listed_call
 use Rattle.replay.specs.declared.ReadCall.{ReadCall}
-use Rattle.replay.specs.declared.ReadCall.TheVariants as readAs
+use Rattle.replay.specs.declared.ReadCall.TheVariants as read_as
 use Rattle.replay.specs.declared.ReplayAnswer.{ReplayAnswer}
 use Rattle.replay.specs.declared.ReplayAnswer.TheVariants.{Played, NoCall, NoStretch, NoRoom}
 
 -- what is found before anything is played
-abbrev pub verdictOf : Reading → ℕ → ReplayAnswer
-verdictOf (listed calls) room = cond (leb (placesFor calls) room) (Played (length calls)) NoRoom
-verdictOf (noCall i) room = NoCall i
-verdictOf (noStretch i) room = NoStretch i
+abbrev pub verdict_of : Reading → ℕ → ReplayAnswer
+verdict_of (listed calls) room = cond (leb (places_for calls) room) (Played (length calls)) NoRoom
+verdict_of (no_call i) room = NoCall i
+verdict_of (no_stretch i) room = NoStretch i
 
 -- a stretch that is read lies in the text
 abbrev pub FitsIn : ℕ → ListedCall → Type 0
-FitsIn size listedCall.Reset = Unit
-FitsIn size (listedCall.Load from to) = (from ≤ to) × (to ≤ size)
-FitsIn size (listedCall.Run b) = Unit
-FitsIn size listedCall.Step = Unit
-FitsIn size listedCall.View = Unit
+FitsIn size listed_call.Reset = Unit
+FitsIn size (listed_call.Load from to) = (from ≤ to) × (to ≤ size)
+FitsIn size (listed_call.Run b) = Unit
+FitsIn size listed_call.Step = Unit
+FitsIn size listed_call.View = Unit
 
 abbrev pub ReadFits : ℕ → ReadCall → Type 0
-ReadFits size (readAs.Read call) = FitsIn size call
-ReadFits size readAs.NoCall = Unit
-ReadFits size readAs.NoStretch = Unit
+ReadFits size (read_as.Read call) = FitsIn size call
+ReadFits size read_as.NoCall = Unit
+ReadFits size read_as.NoStretch = Unit
 
 -- the call at the front of some numbers
-abbrev pub frontCall : List ℕ → ℕ → ReadCall
-frontCall [] size = readAs.NoCall
-frontCall (a ∷ []) size = readAs.NoCall
-frontCall (a ∷ b ∷ []) size = readAs.NoCall
-frontCall (a ∷ b ∷ c ∷ rest) size = readCall a b c size
+abbrev pub front_call : List ℕ → ℕ → ReadCall
+front_call [] size = read_as.NoCall
+front_call (a ∷ []) size = read_as.NoCall
+front_call (a ∷ b ∷ []) size = read_as.NoCall
+front_call (a ∷ b ∷ c ∷ rest) size = read_call a b c size
 
 -- a call that is read has its three numbers
 abbrev pub ReadWhole : ℕ → ReadCall → Type 0
-ReadWhole size (readAs.Read call) = 3 ≤ size
-ReadWhole size readAs.NoCall = Unit
-ReadWhole size readAs.NoStretch = Unit
+ReadWhole size (read_as.Read call) = 3 ≤ size
+ReadWhole size read_as.NoCall = Unit
+ReadWhole size read_as.NoStretch = Unit
 
 -- a list that can be played, with room for so many numbers
 abbrev pub Playable : Reading → ℕ → Type 0
-Playable (listed calls) room = placesFor calls ≤ room
-Playable (noCall i) room = ⊥
-Playable (noStretch i) room = ⊥
+Playable (listed calls) room = places_for calls ≤ room
+Playable (no_call i) room = ⊥
+Playable (no_stretch i) room = ⊥
 
 -- memory and answers of a list played on a core
 pub record AfterPlay : Type 0 where
   pub memory : List ℕ
   pub answers : List ℕ
 
-abbrev pub afterPlay : List ℕ → List ℕ → AfterPlay
-afterPlay memory answers = record { memory = memory; answers = answers }
+abbrev pub after_play : List ℕ → List ℕ → AfterPlay
+after_play memory answers = record { memory = memory; answers = answers }
 
 -- what a core is left as, and what is written of a play on it
-abbrev pub coreLeft : Core → List ℕ
-coreLeft core = leftNumbers (visibleOf core) (spentOf core) core.clock.0
+abbrev pub core_left : Core → List ℕ
+core_left core = left_numbers (visible_of core) (spent_of core) core.clock.0
 
-abbrev pub coreNumbers : List Answer × State → List ℕ
-coreNumbers p = numbersThen p.0 (coreLeft p.1.core)
+abbrev pub core_numbers : List Answer × State → List ℕ
+core_numbers p = numbers_then p.0 (core_left p.1.core)
 
-abbrev pub corePlayed : Reading → List ℕ → List ℕ → AfterPlay
-corePlayed (listed calls) memory answers =
-    let played : List Answer × State = play onCore calls (freshState memory) in
-    afterPlay played.1.memory (ontoIfRoom (coreNumbers played) answers)
-corePlayed (noCall i) memory answers = afterPlay memory answers
-corePlayed (noStretch i) memory answers = afterPlay memory answers
+abbrev pub core_played : Reading → List ℕ → List ℕ → AfterPlay
+core_played (listed calls) memory answers =
+    let played : List Answer × State = play on_core calls (fresh_state memory) in
+    after_play played.1.memory (onto_if_room (core_numbers played) answers)
+core_played (no_call i) memory answers = after_play memory answers
+core_played (no_stretch i) memory answers = after_play memory answers

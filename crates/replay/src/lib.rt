@@ -1,9 +1,9 @@
 // Replay plays a list of calls that is given as data, and answers as the instruction machine of document 01 does.
 ghost use Rattle.std.specs.Prelude.{◌≡◌, List, ◌++◌, ℕ, ◌≤◌, length, take, drop};
-ghost use Rattle.layout.specs.Layout.{ontoIfRoom, numbered, gave};
-ghost use Rattle.machine.specs.Theorem.{replyTo};
-ghost use Rattle.replay.specs.Replay.{readStretch, readBudget, readCall, call_of, callGave, kept, callPlayed, readCalls, replayed, replayGave};
-ghost use Rattle.replay.specs.ReplayParts.{frontCall, verdictOf, FitsIn, ReadFits, ReadWhole, Playable, corePlayed, afterPlay};
+ghost use Rattle.layout.specs.Layout.{onto_if_room, numbered, gave};
+ghost use Rattle.machine.specs.Theorem.{reply_to};
+ghost use Rattle.replay.specs.Replay.{read_stretch, read_budget, read_call, call_of, call_gave, kept, call_played, read_calls, replayed, replay_gave};
+ghost use Rattle.replay.specs.ReplayParts.{front_call, verdict_of, FitsIn, ReadFits, ReadWhole, Playable, core_played, after_play};
 
 use layout::Numbered;
 use r8_core::Core;
@@ -53,7 +53,7 @@ pub struct CallReply {
 }
 
 fn read_stretch(first: u64, second: u64, size: usize) -> ReadCall
-    ensures value { result ≡ readStretch first second size }
+    ensures value { result ≡ read_stretch first second size }
     ensures fits { ReadFits size result }
 {
     let from = first as usize;
@@ -68,7 +68,7 @@ fn read_stretch(first: u64, second: u64, size: usize) -> ReadCall
 }
 
 fn read_budget(first: u64) -> ReadCall
-    ensures value { result ≡ readBudget first }
+    ensures value { result ≡ read_budget first }
     ensures fits { (size : ℕ) → ReadFits size result }
 {
     if 4294967295 < first {
@@ -79,7 +79,7 @@ fn read_budget(first: u64) -> ReadCall
 
 // A call of three numbers, with the length of the text.
 fn read_call(kind: u64, first: u64, second: u64, size: usize) -> ReadCall
-    ensures value { result ≡ readCall kind first second size }
+    ensures value { result ≡ read_call kind first second size }
     ensures fits { ReadFits size result }
 {
     if kind == 0 {
@@ -102,7 +102,7 @@ fn read_call(kind: u64, first: u64, second: u64, size: usize) -> ReadCall
 
 // The call at the front of some numbers; fewer than three are none.
 fn front_call(calls: &[u64], size: usize) -> ReadCall
-    ensures value { result ≡ frontCall calls.now size }
+    ensures value { result ≡ front_call calls.now size }
     ensures fits { ReadFits size result }
     ensures whole { ReadWhole (length calls.now) result }
 {
@@ -114,7 +114,7 @@ fn front_call(calls: &[u64], size: usize) -> ReadCall
 
 // Whether a list can be played, with room for so many numbers: 23 for each answer, and 23 for what the list leaves.
 fn check(calls: &[u64], text: &[u8], room: usize) -> ReplayAnswer
-    ensures { result ≡ verdictOf (readCalls text.now calls.now) room }
+    ensures { result ≡ verdict_of (read_calls text.now calls.now) room }
 {
     let mut at = 0;
     let mut i = 0;
@@ -137,7 +137,7 @@ fn check(calls: &[u64], text: &[u8], room: usize) -> ReplayAnswer
 // One call on a core.
 fn play(core: Core, call: ListedCall, text: &[u8], memory: &mut [u16]) -> Numbered
     requires { FitsIn (length text.now) call }
-    ensures { gave result memory.new ≡ numbered (replyTo (call_of text.now call) core memory.old) }
+    ensures { gave result memory.new ≡ numbered (reply_to (call_of text.now call) core memory.old) }
 {
     match call {
         ListedCall::Reset => layout::reset(core),
@@ -149,7 +149,7 @@ fn play(core: Core, call: ListedCall, text: &[u8], memory: &mut [u16]) -> Number
 }
 
 fn not_played(core: Core, answer: CallAnswer) -> CallReply
-    ensures { (memory : List ℕ) → callGave result memory ≡ kept answer core memory }
+    ensures { (memory : List ℕ) → call_gave result memory ≡ kept answer core memory }
 {
     CallReply {
         core: core,
@@ -168,7 +168,7 @@ pub fn play_call(
     text: &[u8],
     memory: &mut [u16],
 ) -> CallReply
-    ensures { callGave result memory.new ≡ callPlayed text.now (readCall kind first second (length text.now)) core memory.old }
+    ensures { call_gave result memory.new ≡ call_played text.now (read_call kind first second (length text.now)) core memory.old }
 {
     let read = read_call(kind, first, second, text.len());
     match read {
@@ -190,15 +190,15 @@ pub fn play_call(
 // Writes an answer's numbers from a place on.
 fn put_at(answers: &mut [u64], to: usize, numbers: [u64; 23])
     requires { to ≤ length answers.old }
-    ensures { answers.new ≡ take to answers.old ++ ontoIfRoom numbers (drop to answers.old) }
+    ensures { answers.new ≡ take to answers.old ++ onto_if_room numbers (drop to answers.old) }
 {
     layout::put(&mut answers[to..], numbers);
 }
 
 // Plays a list that `check` has found playable: the two returns are never reached.
 fn play_all(calls: &[u64], text: &[u8], memory: &mut [u16], answers: &mut [u64])
-    requires { Playable (readCalls text.now calls.now) (length answers.old) }
-    ensures { corePlayed (readCalls text.now calls.now) memory.old answers.old ≡ afterPlay memory.new answers.new }
+    requires { Playable (read_calls text.now calls.now) (length answers.old) }
+    ensures { core_played (read_calls text.now calls.now) memory.old answers.old ≡ after_play memory.new answers.new }
 {
     let mut core = r8_core::fresh();
     let mut at = 0;
@@ -225,7 +225,7 @@ fn play_all(calls: &[u64], text: &[u8], memory: &mut [u16], answers: &mut [u64])
 // Plays a list of calls on a fresh core and the lent memory, and writes the answers and then what the list left; a list that cannot be
 // played changes nothing. What it answers, writes and leaves in memory is what the instruction machine does.
 pub fn replay(calls: &[u64], text: &[u8], memory: &mut [u16], answers: &mut [u64]) -> ReplayAnswer
-    ensures { replayGave result memory.new answers.new ≡ replayed (readCalls text.now calls.now) memory.old answers.old }
+    ensures { replay_gave result memory.new answers.new ≡ replayed (read_calls text.now calls.now) memory.old answers.old }
 {
     let answer = check(calls, text, answers.len());
     match answer {

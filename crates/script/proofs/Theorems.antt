@@ -8,10 +8,10 @@ use native.Mathlib.Omega.{arith}
 use borrow.Author.Tests.{ltb-true}
 use lib.Dec.{eqb, ltb, lit≤}
 use lib.ListN.{length, drop}
-use Rattle.lines.specs.Lines.{lineFeed, space, prepend, lines, ends}
-use Rattle.lines.specs.Theorems.{startAfter}
-use Rattle.script.specs.Commands.{resetWord, loadWord, end_word, stepWord, viewWord, runWord, listingWord, begins, says, decimalOf, runOf, listingOf, listingAt, withNumbers, commandOf}
-use Rattle.script.specs.Script.{meaningOf, placeAfter, Call, call, Script, calls, unreadable, called, followed, atEnd, scriptFrom, scriptOf}
+use Rattle.lines.specs.Lines.{line_feed, space, prepend, lines, ends}
+use Rattle.lines.specs.Theorems.{start_after}
+use Rattle.script.specs.Commands.{reset_word, load_word, end_word, step_word, view_word, run_word, listing_word, begins, says, decimal_of, run_of, listing_of, listing_at, with_numbers, command_of}
+use Rattle.script.specs.Script.{meaning_of, place_after, Call, call, Script, calls, unreadable, called, followed, at_end, script_from, script_of}
 use Rattle.script.specs.Theorems.{FewCalls, IsCall, AllCalls, EachIsCall}
 use Rattle.script.specs.declared.Command.{Command}
 use Rattle.script.specs.declared.Command.TheVariants.{Blank, Reset, Load, End, Run, Step, View, Listing, Unknown}
@@ -19,9 +19,9 @@ use Rattle.script.specs.declared.Decimal.{Decimal}
 use Rattle.script.specs.declared.Decimal.TheVariants.{Value, NoValue}
 use Rattle.script.specs.declared.Place.{Place}
 use Rattle.script.specs.declared.Place.TheVariants.{Outside, Inside}
-use Rattle.script.proofs.Words.{begins-length}
-use Rattle.script.proofs.Decimals.{Small, decimal-small}
-use Rattle.script.proofs.Writes.{not-calls}
+use Rattle.script.proofs.Words.{begins_length}
+use Rattle.script.proofs.Decimals.{Small, decimal_small}
+use Rattle.script.proofs.Writes.{not_calls}
 
 -- how many bytes a command has at least, as far as is asked here
 abbrev pub needed : Command → ℕ
@@ -59,42 +59,42 @@ when : (b : Bool) {x y : Command} {n : ℕ} → (b ≡ true → Fair x n) → Fa
 when true f g = f refl
 when false f g = g
 
-run-fair : (d : Decimal) {n : ℕ} → Small d → 4 ≤ n → Fair (runOf d) n
-run-fair (Value v) s h = record { long = h; small = s }
-run-fair NoValue {n} s h = none n
+run_fair : (d : Decimal) {n : ℕ} → Small d → 4 ≤ n → Fair (run_of d) n
+run_fair (Value v) s h = record { long = h; small = s }
+run_fair NoValue {n} s h = none n
 
-says-length : (word line : List ℕ) → says word line ≡ true → length word ≤ length line
+says_length : (word line : List ℕ) → says word line ≡ true → length word ≤ length line
 unfolding says
-says-length word line = by (begins word line) refl where
+says_length word line = by (begins word line) refl where
   by : (b : Bool) → begins word line ≡ b → b && ends (drop (length word) line) ≡ true → length word ≤ length line
-  by true e t = begins-length word line e
+  by true e t = begins_length word line e
   by false e t = let z : ◌≡◌ {A = ℕ} 0 1 = cc in absurd (omega arith)
 
-listing-fair : (first between : ℕ) (d : Decimal) {n : ℕ} → Small d → 4 ≤ n → Fair (listingOf first between d) n
-listing-fair first between NoValue {n} s h = none n
-listing-fair first between (Value count) {n} s h = by (ltb first 65536) refl (eqb between space) where
+listing_fair : (first between : ℕ) (d : Decimal) {n : ℕ} → Small d → 4 ≤ n → Fair (listing_of first between d) n
+listing_fair first between NoValue {n} s h = none n
+listing_fair first between (Value count) {n} s h = by (ltb first 65536) refl (eqb between space) where
   by : (p : Bool) → ltb first 65536 ≡ p → (q : Bool) → Fair (cond (p && q) (Listing first count) Unknown) n
   by true e true = record { long = h; small = (omega (arith, ltb-true first 65536 e), s) }
   by true e false = none n
   by false e q = none n
 
-numbers-fair : (line : List ℕ) → Fair (withNumbers line) (length line)
-unfolding withNumbers listingAt
-numbers-fair line =
-    when (begins runWord line) (λ e. run-fair (decimalOf (drop 4 line)) (decimal-small (drop 4 line)) (begins-length runWord line e))
-    (when (begins listingWord line)
-    (λ e. listing-fair _ _ (decimalOf (drop 5 (drop 8 line))) (decimal-small (drop 5 (drop 8 line))) (omega (arith, begins-length listingWord line e)))
+numbers_fair : (line : List ℕ) → Fair (with_numbers line) (length line)
+unfolding with_numbers listing_at
+numbers_fair line =
+    when (begins run_word line) (λ e. run_fair (decimal_of (drop 4 line)) (decimal_small (drop 4 line)) (begins_length run_word line e))
+    (when (begins listing_word line)
+    (λ e. listing_fair _ _ (decimal_of (drop 5 (drop 8 line))) (decimal_small (drop 5 (drop 8 line))) (omega (arith, begins_length listing_word line e)))
     (none (length line)))
 
-pub command-fair : (line : List ℕ) → Fair (commandOf line) (length line)
-unfolding commandOf
-command-fair line =
+pub command_fair : (line : List ℕ) → Fair (command_of line) (length line)
+unfolding command_of
+command_fair line =
     when (ends line) (λ e. record { long = omega arith; small = tt })
-    (when (says resetWord line) (λ e. record { long = omega (arith, says-length resetWord line e); small = tt })
-    (when (says loadWord line) (λ e. record { long = says-length loadWord line e; small = tt })
+    (when (says reset_word line) (λ e. record { long = omega (arith, says_length reset_word line e); small = tt })
+    (when (says load_word line) (λ e. record { long = says_length load_word line e; small = tt })
     (when (says end_word line) (λ e. record { long = omega arith; small = tt })
-    (when (says stepWord line) (λ e. record { long = says-length stepWord line e; small = tt })
-    (when (says viewWord line) (λ e. record { long = says-length viewWord line e; small = tt }) (numbers-fair line))))))
+    (when (says step_word line) (λ e. record { long = says_length step_word line e; small = tt })
+    (when (says view_word line) (λ e. record { long = says_length view_word line e; small = tt }) (numbers_fair line))))))
 
 -- a load that is open starts before the place reached, and its own line has paid for its call
 abbrev pub Before : Place → ℕ → Type 0
@@ -116,10 +116,10 @@ module _ (size : ℕ) where
       → IsCall size (call kind first second)
   plain kind h stretch budget = (inl h, stretch, budget, λ z. absurd (omega arith))
 
-  at-end : (place : Place) (cs : List Call) → atEnd place ≡ calls cs → Good size (paid place) cs
+  at_end_lem : (place : Place) (cs : List Call) → at_end place ≡ calls cs → Good size (paid place) cs
   unfolding AllCalls
-  at-end Outside cs e = let none : [] ≡ cs = cc in subst (Good size 0) none (record { few = lit≤ tt; each = tt })
-  at-end (Inside number from) cs e = absurd (not-calls e)
+  at_end_lem Outside cs e = let none : [] ≡ cs = cc in subst (Good size 0) none (record { few = lit≤ tt; each = tt })
+  at_end_lem (Inside number from) cs e = absurd (not_calls e)
 
   no_more : {cs : List Call} {t bytes : ℕ} → Good size t cs → t ≤ bytes → Good size bytes cs
   no_more g h = record { few = omega (arith, g.few, h); each = g.each }
@@ -131,19 +131,19 @@ module _ (size : ℕ) where
       let split : c ∷ more ≡ cs = cc in
       let r = g more refl in
       subst (Good size bytes) split (record { few = omega (arith, r.few, h); each = (i, r.each) })
-  one_more c (unreadable number) e i g h = absurd (not-calls e)
+  one_more c (unreadable number) e i g h = absurd (not_calls e)
 
   -- one line of n bytes, with what holds of the lines behind it
   module _ (number start n t : ℕ) (after : Place → Script) (h : start ≤ size)
       (g : (p : Place) (cs : List Call) → after p ≡ calls cs → Before p (start + n + 1) → Good size (t + paid p) cs) where
     line_of : (k : Command) → Fair k n → (place : Place) → Before place start → (cs : List Call)
-        → followed (meaningOf place k start) number (after (placeAfter place k number (start + n + 1))) ≡ calls cs
+        → followed (meaning_of place k start) number (after (place_after place k number (start + n + 1))) ≡ calls cs
         → Good size (n + 1 + t + paid place) cs
     line_of Blank f Outside o cs e = no_more (g Outside cs e tt) (omega arith)
     line_of Reset f Outside o cs e =
         one_more (call 0 0 0) (after Outside) e (plain 0 (lit≤ tt) (λ z. absurd (omega (arith, z))) (λ z. absurd (omega (arith, z)))) (λ more q. g Outside more q tt) (omega (arith, f.long))
     line_of Load f Outside o cs e = no_more (g (Inside number (start + n + 1)) cs e (omega arith)) (omega (arith, f.long))
-    line_of End f Outside o cs e = absurd (not-calls e)
+    line_of End f Outside o cs e = absurd (not_calls e)
     line_of (Run v) f Outside o cs e =
         one_more (call 2 v 0) (after Outside) e (plain 2 (lit≤ tt) (λ z. absurd (omega (arith, z))) (λ z. f.small)) (λ more q. g Outside more q tt) (omega (arith, f.long))
     line_of Step f Outside o cs e =
@@ -152,7 +152,7 @@ module _ (size : ℕ) where
         one_more (call 4 0 0) (after Outside) e (plain 4 (lit≤ tt) (λ z. absurd (omega (arith, z))) (λ z. absurd (omega (arith, z)))) (λ more q. g Outside more q tt) (omega (arith, f.long))
     line_of (Listing first count) f Outside o cs e =
         one_more (call 100 first count) (after Outside) e (inr refl, λ z. absurd (omega (arith, z)), λ z. absurd (omega (arith, z)), λ z. f.small) (λ more q. g Outside more q tt) (omega (arith, f.long))
-    line_of Unknown f Outside o cs e = absurd (not-calls e)
+    line_of Unknown f Outside o cs e = absurd (not_calls e)
     line_of Blank f (Inside m from) o cs e = no_more (g (Inside m from) cs e (omega arith)) (omega arith)
     line_of Reset f (Inside m from) o cs e = no_more (g (Inside m from) cs e (omega arith)) (omega arith)
     line_of Load f (Inside m from) o cs e = no_more (g (Inside m from) cs e (omega arith)) (omega arith)
@@ -164,31 +164,31 @@ module _ (size : ℕ) where
     line_of (Listing first count) f (Inside m from) o cs e = no_more (g (Inside m from) cs e (omega arith)) (omega arith)
     line_of Unknown f (Inside m from) o cs e = no_more (g (Inside m from) cs e (omega arith)) (omega arith)
 
-  all_lines : (ls : List (List ℕ)) (place : Place) (number start : ℕ) → start + startAfter ls ≤ size + 1 → Before place start
-      → (cs : List Call) → scriptFrom place number start ls ≡ calls cs → Good size (startAfter ls + paid place) cs
-  unfolding scriptFrom startAfter
-  all_lines [] place number start h o cs e = no_more (at-end place cs e) (omega arith)
+  all_lines : (ls : List (List ℕ)) (place : Place) (number start : ℕ) → start + start_after ls ≤ size + 1 → Before place start
+      → (cs : List Call) → script_from place number start ls ≡ calls cs → Good size (start_after ls + paid place) cs
+  unfolding script_from start_after
+  all_lines [] place number start h o cs e = no_more (at_end_lem place cs e) (omega arith)
   all_lines (line ∷ rest) place number start h o cs e =
       let next = start + length line + 1 in
-      line_of number start (length line) (startAfter rest) (λ p. scriptFrom p (number + 1) next rest) (omega arith)
-      (λ p more q r. all_lines rest p (number + 1) next (omega arith) r more q) (commandOf line) (command-fair line) place o cs e
+      line_of number start (length line) (start_after rest) (λ p. script_from p (number + 1) next rest) (omega arith)
+      (λ p more q r. all_lines rest p (number + 1) next (omega arith) r more q) (command_of line) (command_fair line) place o cs e
 
 -- the lines of a text have its bytes, and an LF more at most
-pub lines-bytes : (t : List ℕ) → startAfter (lines t) ≤ length t + 1
-unfolding lines startAfter
-lines-bytes [] = lit≤ tt
-lines-bytes (b ∷ t) = by (eqb b lineFeed) (lines t) (lines-bytes t) where
-  by : (v : Bool) (ls : List (List ℕ)) → startAfter ls ≤ length t + 1 → startAfter (cond v ([] ∷ ls) (prepend b ls)) ≤ suc (length t) + 1
+pub lines_bytes : (t : List ℕ) → start_after (lines t) ≤ length t + 1
+unfolding lines start_after
+lines_bytes [] = lit≤ tt
+lines_bytes (b ∷ t) = by (eqb b line_feed) (lines t) (lines_bytes t) where
+  by : (v : Bool) (ls : List (List ℕ)) → start_after ls ≤ length t + 1 → start_after (cond v ([] ∷ ls) (prepend b ls)) ≤ suc (length t) + 1
   by true ls h = omega arith
   by false [] h = omega arith
   by false (line ∷ ls) h = omega arith
 
-good : (text : List ℕ) (cs : List Call) → scriptOf text ≡ calls cs → Good (length text) (startAfter (lines text) + 0) cs
-unfolding scriptOf
-good text cs e = all_lines (length text) (lines text) Outside 1 0 (omega (arith, lines-bytes text)) tt cs e
+good : (text : List ℕ) (cs : List Call) → script_of text ≡ calls cs → Good (length text) (start_after (lines text) + 0) cs
+unfolding script_of
+good text cs e = all_lines (length text) (lines text) Outside 1 0 (omega (arith, lines_bytes text)) tt cs e
 
-pub few-calls : FewCalls
-few-calls text cs e = omega (arith, (good text cs e).few, lines-bytes text)
+pub few_calls : FewCalls
+few_calls text cs e = omega (arith, (good text cs e).few, lines_bytes text)
 
-pub each-is-call : EachIsCall
-each-is-call text cs e = (good text cs e).each
+pub each_is_call : EachIsCall
+each_is_call text cs e = (good text cs e).each

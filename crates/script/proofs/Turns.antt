@@ -4,12 +4,12 @@ use mathlib.Core.List.{List}
 use Prim.Native.Nat.{ℕ, ◌+◌, ◌-◌, ◌≤◌, ◌<◌}
 use native.Mathlib.Omega.{arith}
 use lib.ListN.{length, take, drop, drop_of_length-le}
-use Rattle.lines.specs.Lines.{lines, firstLine}
-use Rattle.lines.proofs.Places.{to_end, first-length}
-use Rattle.lines.proofs.Front.{front_at, first-in}
-use Rattle.script.specs.Commands.{commandOf}
-use Rattle.script.specs.Script.{meaningOf, placeAfter, Call, Script, calls, unreadable, called, followed, atEnd, scriptFrom}
-use Rattle.script.specs.ScriptParts.{scriptAt, verdictOf, atEndAnswer}
+use Rattle.lines.specs.Lines.{lines, first_line}
+use Rattle.lines.proofs.Places.{to_end, first_length}
+use Rattle.lines.proofs.Front.{front_at, first_in}
+use Rattle.script.specs.Commands.{command_of}
+use Rattle.script.specs.Script.{meaning_of, place_after, Call, Script, calls, unreadable, called, followed, at_end, script_from}
+use Rattle.script.specs.ScriptParts.{script_at, verdict_of, at_end_answer}
 use Rattle.script.specs.declared.Command.{Command}
 use Rattle.script.specs.declared.Place.{Place}
 use Rattle.script.specs.declared.Place.TheVariants.{Outside, Inside}
@@ -19,45 +19,45 @@ use Rattle.script.specs.declared.ScriptAnswer.{ScriptAnswer}
 use Rattle.script.specs.declared.ScriptAnswer.TheVariants as answer
 
 -- a line of n bytes at a place of a text s
-module _ (s : List ℕ) (at : ℕ) {n : ℕ} (long : n ≡ length (firstLine (take (length s - at) (drop at s)))) where
-  line-size : n ≡ length (firstLine (drop at s))
-  line-size = rw to_end at long
+module _ (s : List ℕ) (at : ℕ) {n : ℕ} (long : n ≡ length (first_line (take (length s - at) (drop at s)))) where
+  line_size : n ≡ length (first_line (drop at s))
+  line_size = rw to_end at long
 
-  pub line-within : n ≤ length s - at
-  line-within = omega (arith, line-size, first-in s at)
+  pub line_within : n ≤ length s - at
+  line_within = omega (arith, line_size, first_in s at)
 
-  line-text : take n (take (length s - at) (drop at s)) ≡ firstLine (drop at s)
-  line-text = rw (line-size, to_end s at, first-length (drop at s))
+  line_text_lem : take n (take (length s - at) (drop at s)) ≡ first_line (drop at s)
+  line_text_lem = rw (line_size, to_end s at, first_length (drop at s))
 
   pub line_taken : n ≡ length (take n (take (length s - at) (drop at s)))
-  line_taken = line-size ∙ ap length (sym line-text)
+  line_taken = line_size ∙ ap length (sym line_text_lem)
 
   -- the lines from there on, by what the first comes to
-  pub line-turn : (place : Place) (number : ℕ) {k : Command} {m : Meaning} {p : Place} → at < length s
-      → k ≡ commandOf (take n (take (length s - at) (drop at s))) → m ≡ meaningOf place k at → p ≡ placeAfter place k number (at + n + 1)
-      → scriptFrom place number at (lines (drop at s)) ≡ followed m number (scriptFrom p (number + 1) (at + n + 1) (lines (drop (at + n + 1) s)))
-  unfolding scriptFrom
-  line-turn place number h says means after =
-      let next : at + (length (firstLine (drop at s)) + 1) ≡ at + n + 1 = omega (arith, line-size) in
-      rw (front_at s at h, next, ← line-size, means, after, says, line-text)
+  pub line_turn : (place : Place) (number : ℕ) {k : Command} {m : Meaning} {p : Place} → at < length s
+      → k ≡ command_of (take n (take (length s - at) (drop at s))) → m ≡ meaning_of place k at → p ≡ place_after place k number (at + n + 1)
+      → script_from place number at (lines (drop at s)) ≡ followed m number (script_from p (number + 1) (at + n + 1) (lines (drop (at + n + 1) s)))
+  unfolding script_from
+  line_turn place number h says means after =
+      let next : at + (length (first_line (drop at s)) + 1) ≡ at + n + 1 = omega (arith, line_size) in
+      rw (front_at s at h, next, ← line_size, means, after, says, line_text_lem)
 
-pub reads_end : (s : List ℕ) (start : LineStart) → length s ≤ start.at → scriptAt s start ≡ atEnd start.place
-unfolding scriptFrom lines
+pub reads_end : (s : List ℕ) (start : LineStart) → length s ≤ start.at → script_at s start ≡ at_end start.place
+unfolding script_from lines
 reads_end s start h = rw (drop_of_length-le s h)
 
 -- the verdict where n calls were read before
-abbrev pub verdictFrom : ℕ → Script → ScriptAnswer
-verdictFrom n (calls cs) = answer.Read (n + length cs)
-verdictFrom n (unreadable number) = answer.Unreadable number
+abbrev pub verdict_from : ℕ → Script → ScriptAnswer
+verdict_from n (calls cs) = answer.Read (n + length cs)
+verdict_from n (unreadable number) = answer.Unreadable number
 
-pub verdict-starts : (x : Script) → verdictOf x ≡ verdictFrom 0 x
-verdict-starts (calls cs) = ap answer.Read (omega arith)
-verdict-starts (unreadable number) = refl
+pub verdict_starts : (x : Script) → verdict_of x ≡ verdict_from 0 x
+verdict_starts (calls cs) = ap answer.Read (omega arith)
+verdict_starts (unreadable number) = refl
 
-pub one_more : (n : ℕ) (c : Call) (rest : Script) → verdictFrom n (called c rest) ≡ verdictFrom (n + 1) rest
+pub one_more : (n : ℕ) (c : Call) (rest : Script) → verdict_from n (called c rest) ≡ verdict_from (n + 1) rest
 one_more n c (calls cs) = ap answer.Read (omega arith)
 one_more n c (unreadable k) = refl
 
-pub verdict-ends : (n : ℕ) (place : Place) → verdictFrom n (atEnd place) ≡ atEndAnswer place n
-verdict-ends n Outside = ap answer.Read (omega arith)
-verdict-ends n (Inside number from) = refl
+pub verdict_ends : (n : ℕ) (place : Place) → verdict_from n (at_end place) ≡ at_end_answer place n
+verdict_ends n Outside = ap answer.Read (omega arith)
+verdict_ends n (Inside number from) = refl

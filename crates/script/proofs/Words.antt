@@ -12,28 +12,28 @@ use lib.Seq.{drop-cons}
 use Rattle.script.specs.Commands.{begins}
 
 module _ (word line : List ℕ) (i : ℕ) where
-  pub begins-further : i < length word → i < length line → get_or line i 0 ≡ get_or word i 0
+  pub begins_further : i < length word → i < length line → get_or line i 0 ≡ get_or word i 0
       → begins (drop i word) (drop i line) ≡ begins (drop (i + 1) word) (drop (i + 1) line)
   unfolding begins
-  begins-further h k e = rw (add-one, drop-cons word i 0 h, drop-cons line i 0 k, eq-eqb (get_or line i 0) (get_or word i 0) e)
+  begins_further h k e = rw (add-one, drop-cons word i 0 h, drop-cons line i 0 k, eq-eqb (get_or line i 0) (get_or word i 0) e)
 
-  pub begins-other : i < length word → i < length line → (get_or line i 0 ≡ get_or word i 0 → ⊥) → begins (drop i word) (drop i line) ≡ false
+  pub begins_other : i < length word → i < length line → (get_or line i 0 ≡ get_or word i 0 → ⊥) → begins (drop i word) (drop i line) ≡ false
   unfolding begins
-  begins-other h k e = rw (drop-cons word i 0 h, drop-cons line i 0 k, ne_eqb (get_or line i 0) (get_or word i 0) e)
+  begins_other h k e = rw (drop-cons word i 0 h, drop-cons line i 0 k, ne_eqb (get_or line i 0) (get_or word i 0) e)
 
-  pub begins-short : i < length word → length line ≤ i → begins (drop i word) (drop i line) ≡ false
+  pub begins_short : i < length word → length line ≤ i → begins (drop i word) (drop i line) ≡ false
   unfolding begins
-  begins-short h k = rw (drop-cons word i 0 h, drop_of_length-le line k)
+  begins_short h k = rw (drop-cons word i 0 h, drop_of_length-le line k)
 
-  pub begins-all : length word ≤ i → begins (drop i word) (drop i line) ≡ true
+  pub begins_all : length word ≤ i → begins (drop i word) (drop i line) ≡ true
   unfolding begins
-  begins-all h = rw (drop_of_length-le word h)
+  begins_all h = rw (drop_of_length-le word h)
 
-pub begins-length : (word line : List ℕ) → begins word line ≡ true → length word ≤ length line
+pub begins_length : (word line : List ℕ) → begins word line ≡ true → length word ≤ length line
 unfolding begins
-begins-length [] line e = omega arith
-begins-length (w ∷ word) [] e = let z : ◌≡◌ {A = ℕ} 0 1 = cc in absurd (omega arith)
-begins-length (w ∷ word) (b ∷ line) e = by (eqb b w) e (begins-length word line) where
+begins_length [] line e = omega arith
+begins_length (w ∷ word) [] e = let z : ◌≡◌ {A = ℕ} 0 1 = cc in absurd (omega arith)
+begins_length (w ∷ word) (b ∷ line) e = by (eqb b w) e (begins_length word line) where
   by : (t : Bool) → cond t (begins word line) false ≡ true → (begins word line ≡ true → length word ≤ length line)
       → suc (length word) ≤ suc (length line)
   by true e ih = omega (arith, ih e)

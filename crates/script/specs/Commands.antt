@@ -10,26 +10,26 @@ use Rattle.script.specs.declared.Decimal.{Decimal}
 use Rattle.script.specs.declared.Decimal.TheVariants.{Value, NoValue}
 
 -- the words, in ASCII: `reset`, `load`, `end`, `step`, `view`, and `run` and `listing` with their spaces
-abbrev pub resetWord : List ℕ
-resetWord = 114 ∷ 101 ∷ 115 ∷ 101 ∷ 116 ∷ []
+abbrev pub reset_word : List ℕ
+reset_word = 114 ∷ 101 ∷ 115 ∷ 101 ∷ 116 ∷ []
 
-abbrev pub loadWord : List ℕ
-loadWord = 108 ∷ 111 ∷ 97 ∷ 100 ∷ []
+abbrev pub load_word : List ℕ
+load_word = 108 ∷ 111 ∷ 97 ∷ 100 ∷ []
 
 abbrev pub end_word : List ℕ
 end_word = 101 ∷ 110 ∷ 100 ∷ []
 
-abbrev pub stepWord : List ℕ
-stepWord = 115 ∷ 116 ∷ 101 ∷ 112 ∷ []
+abbrev pub step_word : List ℕ
+step_word = 115 ∷ 116 ∷ 101 ∷ 112 ∷ []
 
-abbrev pub viewWord : List ℕ
-viewWord = 118 ∷ 105 ∷ 101 ∷ 119 ∷ []
+abbrev pub view_word : List ℕ
+view_word = 118 ∷ 105 ∷ 101 ∷ 119 ∷ []
 
-abbrev pub runWord : List ℕ
-runWord = 114 ∷ 117 ∷ 110 ∷ 32 ∷ []
+abbrev pub run_word : List ℕ
+run_word = 114 ∷ 117 ∷ 110 ∷ 32 ∷ []
 
-abbrev pub listingWord : List ℕ
-listingWord = 108 ∷ 105 ∷ 115 ∷ 116 ∷ 105 ∷ 110 ∷ 103 ∷ 32 ∷ []
+abbrev pub listing_word : List ℕ
+listing_word = 108 ∷ 105 ∷ 115 ∷ 116 ∷ 105 ∷ 110 ∷ 103 ∷ 32 ∷ []
 
 -- whether a line begins with a word
 unfoldable pub begins : List ℕ → List ℕ → Bool
@@ -42,47 +42,47 @@ unfoldable pub says : List ℕ → List ℕ → Bool
 says word line = begins word line && ends (drop (length word) line)
 
 -- the digits 0 to 9
-unfoldable pub isDigit : ℕ → Bool
-isDigit b = leb 48 b && leb b 57
+unfoldable pub is_digit : ℕ → Bool
+is_digit b = leb 48 b && leb b 57
 
 -- a number of 32 bits, its digits followed by the end of a line as above
 unfoldable pub value_of : ℕ → Bool → Decimal
 value_of n ended = cond (leb n 4294967295 && ended) (Value n) NoValue
 
 -- the digits on from a value read so far
-unfoldable pub decimalFrom : ℕ → List ℕ → Decimal
-decimalFrom n [] = value_of n true
-decimalFrom n (b ∷ t) = cond (isDigit b) (decimalFrom (n * 10 + (b - 48)) t) (value_of n (ends (b ∷ t)))
+unfoldable pub decimal_from : ℕ → List ℕ → Decimal
+decimal_from n [] = value_of n true
+decimal_from n (b ∷ t) = cond (is_digit b) (decimal_from (n * 10 + (b - 48)) t) (value_of n (ends (b ∷ t)))
 
 -- a digit or more; the byte 0, which is no digit, stands for the one past the end
-unfoldable pub decimalOf : List ℕ → Decimal
-decimalOf t = cond (isDigit (get_or t 0 0)) (decimalFrom 0 t) NoValue
+unfoldable pub decimal_of : List ℕ → Decimal
+decimal_of t = cond (is_digit (get_or t 0 0)) (decimal_from 0 t) NoValue
 
 -- a run, by its budget
-abbrev pub runOf : Decimal → Command
-runOf (Value n) = Run n
-runOf NoValue = Unknown
+abbrev pub run_of : Decimal → Command
+run_of (Value n) = Run n
+run_of NoValue = Unknown
 
 -- a listing, by its address (65,536 where there are not four digits), the byte behind it and its count
-abbrev pub listingOf : ℕ → ℕ → Decimal → Command
-listingOf first between (Value count) = cond (ltb first 65536 && eqb between space) (Listing first count) Unknown
-listingOf first between NoValue = Unknown
+abbrev pub listing_of : ℕ → ℕ → Decimal → Command
+listing_of first between (Value count) = cond (ltb first 65536 && eqb between space) (Listing first count) Unknown
+listing_of first between NoValue = Unknown
 
 -- what follows `listing` and its space: the address at places 0 to 3, the byte behind it at 4, the count from 5 on
-unfoldable pub listingAt : List ℕ → Command
-listingAt t = listingOf (number_at t 0) (byte_at t 4) (decimalOf (drop 5 t))
+unfoldable pub listing_at : List ℕ → Command
+listing_at t = listing_of (number_at t 0) (byte_at t 4) (decimal_of (drop 5 t))
 
 -- the commands with numbers behind their word
-unfoldable pub withNumbers : List ℕ → Command
-withNumbers line =
-    cond (begins runWord line) (runOf (decimalOf (drop 4 line))) (cond (begins listingWord line) (listingAt (drop 8 line)) Unknown)
+unfoldable pub with_numbers : List ℕ → Command
+with_numbers line =
+    cond (begins run_word line) (run_of (decimal_of (drop 4 line))) (cond (begins listing_word line) (listing_at (drop 8 line)) Unknown)
 
 -- those that are a word alone, then those with numbers
-unfoldable pub commandOf : List ℕ → Command
-commandOf line =
+unfoldable pub command_of : List ℕ → Command
+command_of line =
     cond (ends line) Blank
-    (cond (says resetWord line) Reset
-    (cond (says loadWord line) Load
+    (cond (says reset_word line) Reset
+    (cond (says load_word line) Load
     (cond (says end_word line) End
-    (cond (says stepWord line) Step
-    (cond (says viewWord line) View (withNumbers line))))))
+    (cond (says step_word line) Step
+    (cond (says view_word line) View (with_numbers line))))))

@@ -2,8 +2,8 @@
 -- numbers, and a decimal's value has a recursion of its own, so that what the contracts cite is held to something else.
 use Rattle.std.specs.Prelude.{◌≡◌, ◌↔◌, ◌⊎◌, true, List, [], ◌∷◌, ◌++◌, ℕ, ◌+◌, ◌-◌, ◌*◌, ◌≤◌, length, replicate}
 use Rattle.lines.specs.Theorems.{Writes}
-use Rattle.script.specs.Commands.{commandOf}
-use Rattle.script.specs.Script.{isLoad, isEnd}
+use Rattle.script.specs.Commands.{command_of}
+use Rattle.script.specs.Script.{is_load, is_end}
 use Rattle.script.specs.declared.Command.{Command}
 use Rattle.script.specs.declared.Command.TheVariants.{Blank, Reset, Load, End, Run, Step, View, Listing}
 
@@ -47,30 +47,30 @@ pub record ListingLine (line : List ℕ) (first count : ℕ) : Type 0 where
   pub number : DecimalLast text count
   pub whole : line ≡ 108 ∷ 105 ∷ 115 ∷ 116 ∷ 105 ∷ 110 ∷ 103 ∷ 32 ∷ (address ++ (32 ∷ text))
 
--- a line says a run exactly where it is written as one, with its budget (proved as `run-exactly`)
+-- a line says a run exactly where it is written as one, with its budget (proved as `run_exactly`)
 abbrev pub RunExactly : Type 0
-RunExactly = (line : List ℕ) (b : ℕ) → (commandOf line ≡ Run b) ↔ RunLine line b
+RunExactly = (line : List ℕ) (b : ℕ) → (command_of line ≡ Run b) ↔ RunLine line b
 
--- and a listing exactly where it is written as one, with its address and its count (proved as `listing-exactly`)
+-- and a listing exactly where it is written as one, with its address and its count (proved as `listing_exactly`)
 abbrev pub ListingExactly : Type 0
-ListingExactly = (line : List ℕ) (first count : ℕ) → (commandOf line ≡ Listing first count) ↔ ListingLine line first count
+ListingExactly = (line : List ℕ) (first count : ℕ) → (command_of line ≡ Listing first count) ↔ ListingLine line first count
 
 -- a word, then the end of a line
 abbrev pub WordLine : List ℕ → List ℕ → Type 0
 WordLine word line = (end : List ℕ) × EndLine end × (line ≡ word ++ end)
 
 -- a line is blank exactly where it is only the end of one, and says `reset`, `load`, `end`, `step` and `view` exactly where it is that
--- word; so what is none of these, and no run or listing, is `Unknown` (proved as `words-exactly`)
+-- word; so what is none of these, and no run or listing, is `Unknown` (proved as `words_exactly`)
 abbrev pub WordsExactly : Type 0
 WordsExactly =
     (line : List ℕ)
-    → ((commandOf line ≡ Blank) ↔ EndLine line)
-    × ((commandOf line ≡ Reset) ↔ WordLine (114 ∷ 101 ∷ 115 ∷ 101 ∷ 116 ∷ []) line)
-    × ((commandOf line ≡ Load) ↔ WordLine (108 ∷ 111 ∷ 97 ∷ 100 ∷ []) line)
-    × ((commandOf line ≡ End) ↔ WordLine (101 ∷ 110 ∷ 100 ∷ []) line)
-    × ((commandOf line ≡ Step) ↔ WordLine (115 ∷ 116 ∷ 101 ∷ 112 ∷ []) line)
-    × ((commandOf line ≡ View) ↔ WordLine (118 ∷ 105 ∷ 101 ∷ 119 ∷ []) line)
+    → ((command_of line ≡ Blank) ↔ EndLine line)
+    × ((command_of line ≡ Reset) ↔ WordLine (114 ∷ 101 ∷ 115 ∷ 101 ∷ 116 ∷ []) line)
+    × ((command_of line ≡ Load) ↔ WordLine (108 ∷ 111 ∷ 97 ∷ 100 ∷ []) line)
+    × ((command_of line ≡ End) ↔ WordLine (101 ∷ 110 ∷ 100 ∷ []) line)
+    × ((command_of line ≡ Step) ↔ WordLine (115 ∷ 116 ∷ 101 ∷ 112 ∷ []) line)
+    × ((command_of line ≡ View) ↔ WordLine (118 ∷ 105 ∷ 101 ∷ 119 ∷ []) line)
 
--- only `load` opens a load, and only `end` closes it (proved as `load-exactly`)
+-- only `load` opens a load, and only `end` closes it (proved as `load_exactly`)
 abbrev pub LoadExactly : Type 0
-LoadExactly = (command : Command) → ((isLoad command ≡ true) ↔ (command ≡ Load)) × ((isEnd command ≡ true) ↔ (command ≡ End))
+LoadExactly = (command : Command) → ((is_load command ≡ true) ↔ (command ≡ Load)) × ((is_end command ≡ true) ↔ (command ≡ End))

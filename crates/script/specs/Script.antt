@@ -1,8 +1,8 @@
 -- Scripts: the calls that the lines of a text are, as `replay::replay` takes them, and listings among them. The contract of `read` is an
--- equation with `scriptRead`.
+-- equation with `script_read`.
 use Rattle.std.specs.Prelude.{Bool, true, false, cond, List, [], ◌∷◌, ◌++◌, ℕ, ◌+◌, ◌*◌, leb, length, drop}
 use Rattle.lines.specs.Lines.{lines}
-use Rattle.script.specs.Commands.{commandOf}
+use Rattle.script.specs.Commands.{command_of}
 use Rattle.script.specs.declared.Command.{Command}
 use Rattle.script.specs.declared.Command.TheVariants.{Blank, Reset, Load, End, Run, Step, View, Listing, Unknown}
 use Rattle.script.specs.declared.Place.{Place}
@@ -26,27 +26,27 @@ outside (Listing first count) = meaning.Call 100 first count
 outside Unknown = meaning.Unreadable
 
 -- `load` opens a load, and `end` closes it
-abbrev pub isLoad : Command → Bool
-isLoad Blank = false
-isLoad Reset = false
-isLoad Load = true
-isLoad End = false
-isLoad (Run b) = false
-isLoad Step = false
-isLoad View = false
-isLoad (Listing first count) = false
-isLoad Unknown = false
+abbrev pub is_load : Command → Bool
+is_load Blank = false
+is_load Reset = false
+is_load Load = true
+is_load End = false
+is_load (Run b) = false
+is_load Step = false
+is_load View = false
+is_load (Listing first count) = false
+is_load Unknown = false
 
-abbrev pub isEnd : Command → Bool
-isEnd Blank = false
-isEnd Reset = false
-isEnd Load = false
-isEnd End = true
-isEnd (Run b) = false
-isEnd Step = false
-isEnd View = false
-isEnd (Listing first count) = false
-isEnd Unknown = false
+abbrev pub is_end : Command → Bool
+is_end Blank = false
+is_end Reset = false
+is_end Load = false
+is_end End = true
+is_end (Run b) = false
+is_end Step = false
+is_end View = false
+is_end (Listing first count) = false
+is_end Unknown = false
 
 -- inside a load every line is its listing's, one of only a comment too, which is ill-formed there; up to `end`: the load's stretch goes up
 -- to the start of that line
@@ -54,20 +54,20 @@ abbrev pub inside : Bool → ℕ → ℕ → Meaning
 inside closed from start = cond closed (meaning.Call 1 from start) meaning.Nothing
 
 -- what a line that starts at an offset comes to
-abbrev pub meaningOf : Place → Command → ℕ → Meaning
-meaningOf Outside command start = outside command
-meaningOf (Inside number from) command start = inside (isEnd command) from start
+abbrev pub meaning_of : Place → Command → ℕ → Meaning
+meaning_of Outside command start = outside command
+meaning_of (Inside number from) command start = inside (is_end command) from start
 
 -- where the next line is: a load holds the number of its own line and the start of the line after it
-abbrev pub afterOutside : Bool → ℕ → ℕ → Place
-afterOutside opened number next = cond opened (Inside number next) Outside
+abbrev pub after_outside : Bool → ℕ → ℕ → Place
+after_outside opened number next = cond opened (Inside number next) Outside
 
-abbrev pub afterInside : Bool → ℕ → ℕ → Place
-afterInside closed number from = cond closed Outside (Inside number from)
+abbrev pub after_inside : Bool → ℕ → ℕ → Place
+after_inside closed number from = cond closed Outside (Inside number from)
 
-abbrev pub placeAfter : Place → Command → ℕ → ℕ → Place
-placeAfter Outside command number next = afterOutside (isLoad command) number next
-placeAfter (Inside load from) command number next = afterInside (isEnd command) load from
+abbrev pub place_after : Place → Command → ℕ → ℕ → Place
+place_after Outside command number next = after_outside (is_load command) number next
+place_after (Inside load from) command number next = after_inside (is_end command) load from
 
 -- a call as three numbers: the case and two more
 pub data Call : Type 0 where
@@ -88,24 +88,24 @@ followed (meaning.Call kind first second) number rest = called (call kind first 
 followed meaning.Unreadable number rest = unreadable number
 
 -- a load that is still open at the end cannot be read
-abbrev pub atEnd : Place → Script
-atEnd Outside = calls []
-atEnd (Inside number from) = unreadable number
+abbrev pub at_end : Place → Script
+at_end Outside = calls []
+at_end (Inside number from) = unreadable number
 
 -- some lines, with the number and the start of the first; the next starts past a line and its LF
-unfoldable pub scriptFrom : Place → ℕ → ℕ → List (List ℕ) → Script
-scriptFrom place number start [] = atEnd place
-scriptFrom place number start (line ∷ rest) =
-    followed (meaningOf place (commandOf line) start) number
-    (scriptFrom (placeAfter place (commandOf line) number (start + length line + 1)) (number + 1) (start + length line + 1) rest)
+unfoldable pub script_from : Place → ℕ → ℕ → List (List ℕ) → Script
+script_from place number start [] = at_end place
+script_from place number start (line ∷ rest) =
+    followed (meaning_of place (command_of line) start) number
+    (script_from (place_after place (command_of line) number (start + length line + 1)) (number + 1) (start + length line + 1) rest)
 
 -- lines are numbered from 1
-unfoldable pub scriptOf : List ℕ → Script
-scriptOf text = scriptFrom Outside 1 0 (lines text)
+unfoldable pub script_of : List ℕ → Script
+script_of text = script_from Outside 1 0 (lines text)
 
-unfoldable pub numbersOf : List Call → List ℕ
-numbersOf [] = []
-numbersOf (call kind first second ∷ rest) = kind ∷ first ∷ second ∷ numbersOf rest
+unfoldable pub numbers_of : List Call → List ℕ
+numbers_of [] = []
+numbers_of (call kind first second ∷ rest) = kind ∷ first ∷ second ∷ numbers_of rest
 
 -- what reading a script gives back: its answer, and the lent calls as they then are
 pub record Given : Type 0 where
@@ -116,8 +116,8 @@ abbrev pub gave : ScriptAnswer → List ℕ → Given
 gave a numbers = record { answer = a; calls = numbers }
 
 -- calls that fit are written from the first place on, and what is past them stays; else nothing changes
-abbrev pub scriptRead : Script → List ℕ → Given
-scriptRead (calls cs) old =
-    cond (leb (3 * length cs) (length old)) (gave (answer.Read (length cs)) (numbersOf cs ++ drop (3 * length cs) old))
+abbrev pub script_read : Script → List ℕ → Given
+script_read (calls cs) old =
+    cond (leb (3 * length cs) (length old)) (gave (answer.Read (length cs)) (numbers_of cs ++ drop (3 * length cs) old))
     (gave answer.NoRoom old)
-scriptRead (unreadable number) old = gave (answer.Unreadable number) old
+script_read (unreadable number) old = gave (answer.Unreadable number) old

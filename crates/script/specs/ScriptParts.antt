@@ -2,7 +2,7 @@
 use Rattle.std.specs.Prelude.{List, [], ◌∷◌, ◌++◌, ℕ, ◌+◌, ◌*◌, ◌≤◌, length, drop}
 use Rattle.std.proofs.lemmas.List.Edits.{sets}
 use Rattle.lines.specs.Lines.{lines}
-use Rattle.script.specs.Script.{Script, calls, unreadable, scriptFrom, numbersOf}
+use Rattle.script.specs.Script.{Script, calls, unreadable, script_from, numbers_of}
 use Rattle.script.specs.declared.Place.{Place}
 use Rattle.script.specs.declared.Place.TheVariants.{Outside, Inside}
 use Rattle.script.specs.declared.LineStart.{LineStart}
@@ -12,8 +12,8 @@ use Rattle.script.specs.declared.ScriptAnswer.{ScriptAnswer}
 use Rattle.script.specs.declared.ScriptAnswer.TheVariants as answer
 
 -- the script that the lines from a start on are
-abbrev pub scriptAt : List ℕ → LineStart → Script
-scriptAt text start = scriptFrom start.place start.number start.at (lines (drop start.at text))
+abbrev pub script_at : List ℕ → LineStart → Script
+script_at text start = script_from start.place start.number start.at (lines (drop start.at text))
 
 -- a start that reading comes to: of a line, or past the text's end, by one at most, as the last line may lack its LF; and every line before
 -- it took a byte or more
@@ -21,18 +21,18 @@ abbrev pub Within : List ℕ → LineStart → Type 0
 Within text start = (start.at ≤ length text + 1) × (start.number ≤ start.at + 1)
 
 -- what a script is found to be before anything is written
-abbrev pub verdictOf : Script → ScriptAnswer
-verdictOf (calls cs) = answer.Read (length cs)
-verdictOf (unreadable number) = answer.Unreadable number
+abbrev pub verdict_of : Script → ScriptAnswer
+verdict_of (calls cs) = answer.Read (length cs)
+verdict_of (unreadable number) = answer.Unreadable number
 
-abbrev pub atEndAnswer : Place → ℕ → ScriptAnswer
-atEndAnswer Outside count = answer.Read count
-atEndAnswer (Inside number from) count = answer.Unreadable number
+abbrev pub at_end_answer : Place → ℕ → ScriptAnswer
+at_end_answer Outside count = answer.Read count
+at_end_answer (Inside number from) count = answer.Unreadable number
 
-abbrev pub callsIn : Meaning → ℕ
-callsIn meaning.Nothing = 0
-callsIn (meaning.Call kind first second) = 1
-callsIn meaning.Unreadable = 0
+abbrev pub calls_in : Meaning → ℕ
+calls_in meaning.Nothing = 0
+calls_in (meaning.Call kind first second) = 1
+calls_in meaning.Unreadable = 0
 
 -- one line's call written at a place
 abbrev pub put : Meaning → ℕ → List ℕ → List ℕ
@@ -45,6 +45,6 @@ abbrev pub Fits : Script → ℕ → Type 0
 Fits (calls cs) size = 3 * length cs ≤ size
 Fits (unreadable number) size = ⊥
 
-abbrev pub callsWritten : Script → List ℕ → List ℕ
-callsWritten (calls cs) old = numbersOf cs ++ drop (3 * length cs) old
-callsWritten (unreadable number) old = old
+abbrev pub calls_written : Script → List ℕ → List ℕ
+calls_written (calls cs) old = numbers_of cs ++ drop (3 * length cs) old
+calls_written (unreadable number) old = old

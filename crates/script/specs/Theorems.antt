@@ -1,10 +1,10 @@
 -- What holds of every script that can be read: two statements, proved in proofs/Theorems.antt.
 use Rattle.std.specs.Prelude.{◌≡◌, ◌⊎◌, List, [], ◌∷◌, ℕ, ◌+◌, ◌*◌, ◌≤◌, length}
-use Rattle.script.specs.Script.{Call, call, calls, scriptOf}
+use Rattle.script.specs.Script.{Call, call, calls, script_of}
 
--- a call takes four bytes or more, and an LF before the next (proved as `few-calls`)
+-- a call takes four bytes or more, and an LF before the next (proved as `few_calls`)
 abbrev pub FewCalls : Type 0
-FewCalls = (text : List ℕ) (cs : List Call) → scriptOf text ≡ calls cs → 5 * length cs ≤ length text + 1
+FewCalls = (text : List ℕ) (cs : List Call) → script_of text ≡ calls cs → 5 * length cs ≤ length text + 1
 
 -- the numbers of one of the five calls, as `replay::replay` reads them: the stretch of a load lies in the text, a budget has 32 bits; or
 -- those of a listing: an address has 16 bits, a count 32
@@ -17,6 +17,6 @@ unfoldable pub AllCalls : ℕ → List Call → Type 0
 AllCalls size [] = Unit
 AllCalls size (c ∷ rest) = IsCall size c × AllCalls size rest
 
--- what is read as a call is one (proved as `each-is-call`)
+-- what is read as a call is one (proved as `each_is_call`)
 abbrev pub EachIsCall : Type 0
-EachIsCall = (text : List ℕ) (cs : List Call) → scriptOf text ≡ calls cs → AllCalls (length text) cs
+EachIsCall = (text : List ℕ) (cs : List Call) → script_of text ≡ calls cs → AllCalls (length text) cs

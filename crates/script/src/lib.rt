@@ -1,8 +1,8 @@
 // Scripts: calls as lines of text, read into the numbers that replay::replay takes, and listings among them.
 ghost use Rattle.std.specs.Prelude.{◌≡◌, ◌+◌, ◌*◌, ◌≤◌, ◌<◌, length};
-ghost use Rattle.script.specs.Commands.{begins, says, isDigit, value_of, decimalOf, runOf, listingOf, listingAt, withNumbers, commandOf};
-ghost use Rattle.script.specs.Script.{outside, isLoad, isEnd, inside, meaningOf, afterOutside, afterInside, placeAfter, followed, scriptOf, gave, scriptRead};
-ghost use Rattle.script.specs.ScriptParts.{scriptAt, Within, verdictOf, atEndAnswer, callsIn, put, Fits, callsWritten};
+ghost use Rattle.script.specs.Commands.{begins, says, is_digit, value_of, decimal_of, run_of, listing_of, listing_at, with_numbers, command_of};
+ghost use Rattle.script.specs.Script.{outside, is_load, is_end, inside, meaning_of, after_outside, after_inside, place_after, followed, script_of, gave, script_read};
+ghost use Rattle.script.specs.ScriptParts.{script_at, Within, verdict_of, at_end_answer, calls_in, put, Fits, calls_written};
 
 // The case of a listing among the numbers of a script: its address and its count follow. The cases of replay::replay are below 100; from
 // there on they are the script's own.
@@ -104,7 +104,7 @@ fn is_word(word: &[u8], line: &[u8]) -> bool
 }
 
 fn is_digit(b: u8) -> bool
-    ensures { result ≡ isDigit b }
+    ensures { result ≡ is_digit b }
 {
     if b < 48 {
         return false;
@@ -133,7 +133,7 @@ fn wide(b: u8) -> u64
 
 // Digits, then the end of the line. A value that has grown too large stays so.
 fn read_decimal(s: &[u8]) -> Decimal
-    ensures { result ≡ decimalOf s.now }
+    ensures { result ≡ decimal_of s.now }
 {
     if s.len() == 0 {
         return Decimal::NoValue;
@@ -157,7 +157,7 @@ fn read_decimal(s: &[u8]) -> Decimal
 }
 
 fn run_of(budget: Decimal) -> Command
-    ensures { result ≡ runOf budget }
+    ensures { result ≡ run_of budget }
 {
     match budget {
         Decimal::Value(n) => Command::Run(n),
@@ -167,7 +167,7 @@ fn run_of(budget: Decimal) -> Command
 
 // A listing, given its address, the byte behind it and its count.
 fn listing_of(first: u32, between: u8, count: Decimal) -> Command
-    ensures { result ≡ listingOf first between count }
+    ensures { result ≡ listing_of first between count }
 {
     let Decimal::Value(n) = count else {
         return Command::Unknown;
@@ -186,7 +186,7 @@ fn listing_of(first: u32, between: u8, count: Decimal) -> Command
 
 // What follows `listing` and its space.
 fn read_listing(s: &[u8]) -> Command
-    ensures { result ≡ listingAt s.now }
+    ensures { result ≡ listing_at s.now }
 {
     if s.len() < 5 {
         return Command::Unknown;
@@ -196,7 +196,7 @@ fn read_listing(s: &[u8]) -> Command
 
 // The commands with numbers behind their word.
 fn read_with_numbers(line: &[u8]) -> Command
-    ensures { result ≡ withNumbers line.now }
+    ensures { result ≡ with_numbers line.now }
 {
     if begins_with(b"run ", line) {
         return run_of(read_decimal(&line[4..]));
@@ -209,7 +209,7 @@ fn read_with_numbers(line: &[u8]) -> Command
 
 // The commands that are a word alone, then those with numbers.
 fn read_command(line: &[u8]) -> Command
-    ensures { result ≡ commandOf line.now }
+    ensures { result ≡ command_of line.now }
 {
     if lines::line_ends(line) {
         return Command::Blank;
@@ -282,7 +282,7 @@ fn inside_load(closed: bool, from: usize, start: usize) -> Meaning
 }
 
 fn opens(command: Command) -> bool
-    ensures { result ≡ isLoad command }
+    ensures { result ≡ is_load command }
 {
     match command {
         Command::Blank => false,
@@ -298,7 +298,7 @@ fn opens(command: Command) -> bool
 }
 
 fn closes(command: Command) -> bool
-    ensures { result ≡ isEnd command }
+    ensures { result ≡ is_end command }
 {
     match command {
         Command::Blank => false,
@@ -314,7 +314,7 @@ fn closes(command: Command) -> bool
 }
 
 fn meaning_of(place: Place, command: Command, start: usize) -> Meaning
-    ensures { result ≡ meaningOf place command start }
+    ensures { result ≡ meaning_of place command start }
 {
     match place {
         Place::Outside => outside_load(command),
@@ -324,7 +324,7 @@ fn meaning_of(place: Place, command: Command, start: usize) -> Meaning
 
 // Where the next line is, after one outside a load.
 fn place_opened(opened: bool, number: usize, next: usize) -> Place
-    ensures { result ≡ afterOutside opened number next }
+    ensures { result ≡ after_outside opened number next }
 {
     if opened {
         return Place::Inside {
@@ -337,7 +337,7 @@ fn place_opened(opened: bool, number: usize, next: usize) -> Place
 
 // And after one inside.
 fn place_closed(closed: bool, number: usize, from: usize) -> Place
-    ensures { result ≡ afterInside closed number from }
+    ensures { result ≡ after_inside closed number from }
 {
     if closed {
         return Place::Outside;
@@ -349,7 +349,7 @@ fn place_closed(closed: bool, number: usize, from: usize) -> Place
 }
 
 fn place_after(place: Place, command: Command, number: usize, next: usize) -> Place
-    ensures { result ≡ placeAfter place command number next }
+    ensures { result ≡ place_after place command number next }
 {
     match place {
         Place::Outside => place_opened(opens(command), number, next),
@@ -358,7 +358,7 @@ fn place_after(place: Place, command: Command, number: usize, next: usize) -> Pl
 }
 
 fn at_end(place: Place, count: usize) -> ScriptAnswer
-    ensures { result ≡ atEndAnswer place count }
+    ensures { result ≡ at_end_answer place count }
 {
     match place {
         Place::Outside => ScriptAnswer::Read(count),
@@ -369,7 +369,7 @@ fn at_end(place: Place, count: usize) -> ScriptAnswer
 // Reads one line: what the lines from its start on are is what it comes to, followed by the lines from the next start on.
 fn read_line(text: &[u8], start: LineStart) -> LineRead
     requires { (start.at < length text.now) × Within text.now start }
-    ensures reads { scriptAt text.now start ≡ followed result.meaning start.number (scriptAt text.now result.next) }
+    ensures reads { script_at text.now start ≡ followed result.meaning start.number (script_at text.now result.next) }
     ensures goes { (start.at < result.next.at) × Within text.now result.next }
 {
     let at = start.at;
@@ -390,7 +390,7 @@ fn read_line(text: &[u8], start: LineStart) -> LineRead
 
 // What a script is, with nothing written yet.
 fn check(text: &[u8]) -> ScriptAnswer
-    ensures { result ≡ verdictOf (scriptOf text.now) }
+    ensures { result ≡ verdict_of (script_of text.now) }
 {
     let mut start = FIRST;
     let mut count = 0;
@@ -418,8 +418,8 @@ fn check(text: &[u8]) -> ScriptAnswer
 
 // Writes a line's call from a place on, and answers the place after it.
 fn put_call(calls: &mut [u64], to: usize, meaning: Meaning) -> usize
-    requires { to + 3 * callsIn meaning ≤ length calls.old }
-    ensures place { result ≡ to + 3 * callsIn meaning }
+    requires { to + 3 * calls_in meaning ≤ length calls.old }
+    ensures place { result ≡ to + 3 * calls_in meaning }
     ensures calls { calls.new ≡ put meaning to calls.old }
 {
     match meaning {
@@ -440,8 +440,8 @@ fn put_call(calls: &mut [u64], to: usize, meaning: Meaning) -> usize
 
 // Writes the calls of a script that can be read and whose calls fit.
 fn write_calls(text: &[u8], calls: &mut [u64])
-    requires { Fits (scriptOf text.now) (length calls.old) }
-    ensures { calls.new ≡ callsWritten (scriptOf text.now) calls.old }
+    requires { Fits (script_of text.now) (length calls.old) }
+    ensures { calls.new ≡ calls_written (script_of text.now) calls.old }
 {
     let mut start = FIRST;
     let mut to = 0;
@@ -456,7 +456,7 @@ fn write_calls(text: &[u8], calls: &mut [u64])
 // Reads a script: writes its calls from calls[0] on, three numbers each. Where it cannot be read, or its calls do not fit, nothing is
 // written.
 pub fn read(text: &[u8], calls: &mut [u64]) -> ScriptAnswer
-    ensures { gave result calls.new ≡ scriptRead (scriptOf text.now) calls.old }
+    ensures { gave result calls.new ≡ script_read (script_of text.now) calls.old }
 {
     let answer = check(text);
     match answer {

@@ -7,7 +7,7 @@ use native.Mathlib.Nat.{add-zero, le_of_suc-le-suc, not-suc-le-zero}
 use native.Mathlib.Omega.{arith}
 use lib.Dec.{T, eqb, eqb→eq, lit<}
 use lib.ListN.{length, get_or, get_or-map}
-use Rattle.table.specs.Table.{table, place_of, kind_of, binaryEntry, constantEntry, unaryEntry, conditionRank, firstJump, jumpEntry, entry}
+use Rattle.table.specs.Table.{table, place_of, kind_of, binary_entry, constant_entry, unary_entry, condition_rank, first_jump, jump_entry, entry}
 use Rattle.isa.specs.declared.Kind.{Kind}
 use Rattle.isa.specs.declared.Kind.TheVariants.{Undefined, Binary, Constant, Ld, St, Unary, Nop, Halt, Ldsp, Rts, Pop, Push, Jump, Call}
 use Rattle.isa.specs.declared.BinaryOp.{BinaryOp}
@@ -20,8 +20,8 @@ use Rattle.isa.specs.declared.Condition.{Condition}
 use Rattle.isa.specs.declared.Condition.TheVariants.{Always, Negative, Zero, Carry, Overflow}
 use Rattle.isa.specs.declared.Target.{Target}
 use Rattle.isa.specs.declared.Target.TheVariants.{Relative, Absolute, Displaced}
-use Rattle.table.proofs.Table.{kind-past}
-use Rattle.table.proofs.Lines.{place-le, Line, line}
+use Rattle.table.proofs.Table.{kind_past}
+use Rattle.table.proofs.Lines.{place_le, Line, line}
 
 -- the list counts up from i
 counts : ℕ → List ℕ → Bool
@@ -50,9 +50,9 @@ unfolding table counts
 entry_at n h =
     sym (get_or-map entry table n Undefined) ∙ counted (map entry table) 0 40 tt refl n h ∙ omega arith
 
-pub entry-kind : (w : ℕ) → w < 65536 → entry (kind_of w) ≡ place_of w
+pub entry_kind : (w : ℕ) → w < 65536 → entry (kind_of w) ≡ place_of w
 unfolding kind_of
-entry-kind w h = entry_at (place_of w) (place-le w h)
+entry_kind w h = entry_at (place_of w) (place_le w h)
 
 -- and at its own place each kind is found
 pub kind_at : (k : Kind) → get_or table (entry k) Undefined ≡ k
@@ -77,13 +77,13 @@ kind_at (Jump Overflow t) = elim t [ Relative ↦ refl | Absolute ↦ refl | Dis
 kind_at (Call target) = elim target [ Relative ↦ refl | Absolute ↦ refl | Displaced ↦ refl ]
 
 -- a word that stands where a kind does is of that kind
-pub kind-by-place : (w : ℕ) (k : Kind) → place_of w ≡ entry k → kind_of w ≡ k
+pub kind_by_place : (w : ℕ) (k : Kind) → place_of w ≡ entry k → kind_of w ≡ k
 unfolding kind_of
-kind-by-place w k e = ap (λ (n : ℕ). get_or table n Undefined) e ∙ kind_at k
+kind_by_place w k e = ap (λ (n : ℕ). get_or table n Undefined) e ∙ kind_at k
 
 -- the kind that code finds at a word's place
 pub found_at : (w n : ℕ) (k : Kind) → n ≡ place_of w → n ≡ entry k → k ≡ kind_of w
-found_at w n k p e = sym (kind-by-place w k (sym p ∙ e))
+found_at w n k p e = sym (kind_by_place w k (sym p ∙ e))
 
 -- a number that is none of the first k is k or more
 abbrev None : ℕ → ℕ → Type 0
@@ -94,25 +94,25 @@ none_below : (n k : ℕ) → None n k → k ≤ n
 none_below n zero h = omega arith
 none_below n (suc k) h = let below = none_below n k h.0 in omega (arith, below, h.1)
 
-pub found-past : (w n : ℕ) → n ≡ place_of w → None n 40 → Undefined ≡ kind_of w
-found-past w n p h = sym (kind-past w (subst (λ (m : ℕ). 40 ≤ m) p (none_below n 40 h)))
+pub found_past : (w n : ℕ) → n ≡ place_of w → None n 40 → Undefined ≡ kind_of w
+found_past w n p h = sym (kind_past w (subst (λ (m : ℕ). 40 ≤ m) p (none_below n 40 h)))
 
 -- which line of the table an entry is on
-pub binary-on-O : (op : BinaryOp) → binaryEntry op < 11
-binary-on-O op = elim op [ Add ↦ lit< tt | Sub ↦ lit< tt | And ↦ lit< tt | Or ↦ lit< tt | Xor ↦ lit< tt ]
+pub binary_on_O : (op : BinaryOp) → binary_entry op < 11
+binary_on_O op = elim op [ Add ↦ lit< tt | Sub ↦ lit< tt | And ↦ lit< tt | Or ↦ lit< tt | Xor ↦ lit< tt ]
 
-pub constant-on-O : (op : ConstantOp) → constantEntry op < 11
-constant-on-O op = elim op [ Addi ↦ lit< tt | Subi ↦ lit< tt | Ldl ↦ lit< tt | Ldh ↦ lit< tt ]
+pub constant_on_O : (op : ConstantOp) → constant_entry op < 11
+constant_on_O op = elim op [ Addi ↦ lit< tt | Subi ↦ lit< tt | Ldl ↦ lit< tt | Ldh ↦ lit< tt ]
 
-pub unary-on-B : (op : UnaryOp) → (11 ≤ unaryEntry op) × (unaryEntry op < 34)
-unary-on-B op = elim op [ Sl0 ↦ omega arith | Sl1 ↦ omega arith | Sr0 ↦ omega arith | Sr1 ↦ omega arith | Not ↦ omega arith ]
+pub unary_on_B : (op : UnaryOp) → (11 ≤ unary_entry op) × (unary_entry op < 34)
+unary_on_B op = elim op [ Sl0 ↦ omega arith | Sl1 ↦ omega arith | Sr0 ↦ omega arith | Sr1 ↦ omega arith | Not ↦ omega arith ]
 
-pub jump-on : (c : Condition) (t : Target) → (firstJump t ≤ jumpEntry c t) × (jumpEntry c t < firstJump t + 5)
-jump-on c t = let h = below c in omega arith
+pub jump_on : (c : Condition) (t : Target) → (first_jump t ≤ jump_entry c t) × (jump_entry c t < first_jump t + 5)
+jump_on c t = let h = below c in omega arith
   where
-    below : (c : Condition) → conditionRank c < 5
+    below : (c : Condition) → condition_rank c < 5
     below c = elim c [ Always ↦ lit< tt | Negative ↦ lit< tt | Zero ↦ lit< tt | Carry ↦ lit< tt | Overflow ↦ lit< tt ]
 
 -- the line of a word's own kind
 pub line_of : (w : ℕ) → w < 65536 → (k : Kind) → kind_of w ≡ k → Line w (entry k)
-line_of w h k e = subst (Line w) (sym (entry-kind w h) ∙ ap entry e) (line w h)
+line_of w h k e = subst (Line w) (sym (entry_kind w h) ∙ ap entry e) (line w h)

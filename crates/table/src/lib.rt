@@ -1,6 +1,6 @@
 // The instruction table of document 01: which instruction a word is, and the word of each.
 ghost use Rattle.std.specs.Prelude.{◌≡◌, ◌<◌};
-ghost use Rattle.table.specs.Table.{place_of, kind_of, binaryEntry, constantEntry, unaryEntry, conditionRank, jumpEntry, callEntry, entry, word_of};
+ghost use Rattle.table.specs.Table.{place_of, kind_of, binary_entry, constant_entry, unary_entry, condition_rank, jump_entry, call_entry, entry, word_of};
 
 use isa::{BinaryOp, Condition, ConstantOp, Kind, Target, UnaryOp};
 
@@ -81,7 +81,7 @@ pub fn kind_of(word: u16) -> Kind
 }
 
 fn binary_entry(op: BinaryOp) -> u8
-    ensures { result ≡ binaryEntry op }
+    ensures { result ≡ binary_entry op }
 {
     match op {
         BinaryOp::Add => 0,
@@ -93,7 +93,7 @@ fn binary_entry(op: BinaryOp) -> u8
 }
 
 fn constant_entry(op: ConstantOp) -> u8
-    ensures { result ≡ constantEntry op }
+    ensures { result ≡ constant_entry op }
 {
     match op {
         ConstantOp::Addi => 5,
@@ -104,7 +104,7 @@ fn constant_entry(op: ConstantOp) -> u8
 }
 
 fn unary_entry(op: UnaryOp) -> u8
-    ensures { result ≡ unaryEntry op }
+    ensures { result ≡ unary_entry op }
 {
     match op {
         UnaryOp::Sl0 => 11,
@@ -116,7 +116,7 @@ fn unary_entry(op: UnaryOp) -> u8
 }
 
 fn condition_rank(condition: Condition) -> u8
-    ensures { (result ≡ conditionRank condition) × (result < 5) }
+    ensures { (result ≡ condition_rank condition) × (result < 5) }
 {
     match condition {
         Condition::Always => 0,
@@ -128,7 +128,7 @@ fn condition_rank(condition: Condition) -> u8
 }
 
 fn jump_entry(condition: Condition, target: Target) -> u8
-    ensures { result ≡ jumpEntry condition target }
+    ensures { result ≡ jump_entry condition target }
 {
     let rank = condition_rank(condition);
     match target {
@@ -139,7 +139,7 @@ fn jump_entry(condition: Condition, target: Target) -> u8
 }
 
 fn call_entry(target: Target) -> u8
-    ensures { result ≡ callEntry target }
+    ensures { result ≡ call_entry target }
 {
     match target {
         Target::Relative => 32,

@@ -1,13 +1,13 @@
 // How numbers, flags, end letters and the lines of a trace are written.
 ghost use Rattle.std.specs.Prelude.{◌≡◌};
-ghost use Rattle.text.specs.Decimal.{lastDigit, decimalText, atEnd};
-ghost use Rattle.text.specs.Text.{bitText, flagsText, lineText, letterText};
+ghost use Rattle.text.specs.Decimal.{last_digit, decimal_text, at_end};
+ghost use Rattle.text.specs.Text.{bit_text, flags_text, line_text, letter_text};
 
 use isa::{Cycles, Flags};
 use r8_core::End;
 
 fn last_digit(n: u64) -> u8
-    ensures { result ≡ lastDigit n }
+    ensures { result ≡ last_digit n }
 {
     48 + (n % 10) as u8
 }
@@ -20,7 +20,7 @@ pub struct Figure {
 }
 
 pub fn decimal(n: u64) -> Figure
-    ensures { result ≡ atEnd (decimalText n) }
+    ensures { result ≡ at_end (decimal_text n) }
 {
     let mut digits = [b' '; 20];
     let mut start: usize = 20;
@@ -39,20 +39,20 @@ pub fn decimal(n: u64) -> Figure
 }
 
 fn bit(set: bool) -> u8
-    ensures { result ≡ bitText set }
+    ensures { result ≡ bit_text set }
 {
     if set { b'1' } else { b'0' }
 }
 
 pub fn flags_text(flags: Flags) -> [u8; 4]
-    ensures { result ≡ flagsText flags }
+    ensures { result ≡ flags_text flags }
 {
     [bit(flags.n), bit(flags.z), bit(flags.c), bit(flags.v)]
 }
 
 // The line of a finished instruction. Its cycles, 2 to 4, are one digit; of a number above 9 it is the last.
 pub fn line_text(address: u16, word: u16, cycles: Cycles, flags: Flags) -> [u8; 17]
-    ensures { result ≡ lineText address word cycles.0 flags }
+    ensures { result ≡ line_text address word cycles.0 flags }
 {
     let a = hexadecimal::word_text(address);
     let w = hexadecimal::word_text(word);
@@ -79,7 +79,7 @@ pub fn line_text(address: u16, word: u16, cycles: Cycles, flags: Flags) -> [u8; 
 }
 
 pub fn letter(end: End) -> u8
-    ensures { result ≡ letterText end }
+    ensures { result ≡ letter_text end }
 {
     match end {
         End::H => b'H',

@@ -23,391 +23,391 @@ use Rattle.output as output
 use Rattle.printed as printed
 
 -- words
-pub words-and-bits : words.specs.Theorems.AndBits
-words-and-bits = words.proofs.Theorems.and-bits
+pub words_and_bits : words.specs.Theorems.AndBits
+words_and_bits = words.proofs.Theorems.and_bits
 
-pub words-or-bits : words.specs.Theorems.OrBits
-words-or-bits = words.proofs.Theorems.or-bits
+pub words_or_bits : words.specs.Theorems.OrBits
+words_or_bits = words.proofs.Theorems.or_bits
 
-pub words-xor-bits : words.specs.Theorems.XorBits
-words-xor-bits = words.proofs.Theorems.xor-bits
+pub words_xor_bits : words.specs.Theorems.XorBits
+words_xor_bits = words.proofs.Theorems.xor_bits
 
-pub words-memory-exactly : words.specs.Theorems.MemoryExactly
-words-memory-exactly = words.proofs.Theorems.memory-exactly
+pub words_memory_exactly : words.specs.Theorems.MemoryExactly
+words_memory_exactly = words.proofs.Theorems.memory_exactly
 
 -- refusals
-pub refusals-length-exactly : refusals.specs.Theorems.LengthExactly
-refusals-length-exactly = refusals.proofs.First.length-exactly
+pub refusals_length_exactly : refusals.specs.Theorems.LengthExactly
+refusals_length_exactly = refusals.proofs.First.length_exactly
 
-pub refusals-first-exactly : refusals.specs.Theorems.FirstExactly
-refusals-first-exactly = refusals.proofs.First.first-exactly
+pub refusals_first_exactly : refusals.specs.Theorems.FirstExactly
+refusals_first_exactly = refusals.proofs.First.first_exactly
 
-pub refusals-numbers-apart : refusals.specs.Theorems.NumbersApart
-refusals-numbers-apart = refusals.proofs.Apart.Numbers-apart
+pub refusals_numbers_apart : refusals.specs.Theorems.NumbersApart
+refusals_numbers_apart = refusals.proofs.Apart.Numbers-apart
 
 -- table
-pub table-table-entries : table.specs.Theorems.TableEntries
-table-table-entries = table.proofs.Theorems.table-entries
+pub table_table_entries : table.specs.Theorems.TableEntries
+table_table_entries = table.proofs.Theorems.table_entries
 
-pub table-undefined-exactly : table.specs.Theorems.UndefinedExactly
-table-undefined-exactly = table.proofs.Theorems.undefined-exactly
+pub table_undefined_exactly : table.specs.Theorems.UndefinedExactly
+table_undefined_exactly = table.proofs.Theorems.undefined_exactly
 
-pub table-undefined-count : table.specs.Theorems.UndefinedCount
-table-undefined-count = table.proofs.Theorems.undefined-count
+pub table_undefined_count : table.specs.Theorems.UndefinedCount
+table_undefined_count = table.proofs.Theorems.undefined_count
 
 -- effects
-pub effects-effect-parts : effects.specs.Theorems.EffectParts
-effects-effect-parts = effects.proofs.Theorems.effect-parts
+pub effects_effect_parts : effects.specs.Theorems.EffectParts
+effects_effect_parts = effects.proofs.Theorems.effect_parts
 
-pub effects-hidden-parts : effects.specs.Theorems.HiddenParts
-effects-hidden-parts = effects.proofs.Theorems.hidden-parts
+pub effects_hidden_parts : effects.specs.Theorems.HiddenParts
+effects_hidden_parts = effects.proofs.Theorems.hidden_parts
 
-pub effects-cycles-agree : effects.specs.Theorems.CyclesAgree
-effects-cycles-agree = effects.proofs.Theorems.cycles-agree
+pub effects_cycles_agree : effects.specs.Theorems.CyclesAgree
+effects_cycles_agree = effects.proofs.Theorems.cycles_agree
 
-pub effects-past-the-last : effects.specs.Theorems.PastTheLast
-effects-past-the-last = effects.proofs.Theorems.past-the-last
+pub effects_past_the_last : effects.specs.Theorems.PastTheLast
+effects_past_the_last = effects.proofs.Theorems.past_the_last
 
-pub effects-access-made : effects.specs.Theorems.AccessMade
-effects-access-made = effects.proofs.Theorems.access-made
+pub effects_access_made : effects.specs.Theorems.AccessMade
+effects_access_made = effects.proofs.Theorems.access_made
 
-pub effects-stack-exactly : effects.specs.Theorems.StackExactly
-effects-stack-exactly = effects.proofs.Theorems.stack-exactly
+pub effects_stack_exactly : effects.specs.Theorems.StackExactly
+effects_stack_exactly = effects.proofs.Theorems.stack_exactly
 
 -- forms
-pub forms-form-means : forms.specs.Theorems.FormMeans
-forms-form-means = forms.proofs.Means.form-means
+pub forms_form_means : forms.specs.Theorems.FormMeans
+forms_form_means = forms.proofs.Means.form_means
 
-pub forms-form-word-form : forms.specs.Theorems.FormWordForm
-forms-form-word-form = forms.proofs.Theorems.form-word-form
+pub forms_form_word_form : forms.specs.Theorems.FormWordForm
+forms_form_word_form = forms.proofs.Theorems.form_word_form
 
-pub forms-word-form-word : forms.specs.Theorems.WordFormWord
-forms-word-form-word = forms.proofs.Theorems.word-form-word
+pub forms_word_form_word : forms.specs.Theorems.WordFormWord
+forms_word_form_word = forms.proofs.Theorems.word_form_word
 
-pub forms-unchanged : forms.specs.Theorems.Unchanged
-forms-unchanged = forms.proofs.Theorems.unchanged
+pub forms_unchanged : forms.specs.Theorems.Unchanged
+forms_unchanged = forms.proofs.Theorems.unchanged
 
-pub forms-refused-word : forms.specs.Theorems.RefusedWord
-forms-refused-word = forms.proofs.Theorems.refused-word
+pub forms_refused_word : forms.specs.Theorems.RefusedWord
+forms_refused_word = forms.proofs.Theorems.refused_word
 
-pub forms-refused-form : forms.specs.Theorems.RefusedForm
-forms-refused-form = forms.proofs.Theorems.refused-form
+pub forms_refused_form : forms.specs.Theorems.RefusedForm
+forms_refused_form = forms.proofs.Theorems.refused_form
 
-pub forms-forms-read : forms.specs.Theorems.FormsRead
-forms-forms-read = forms.proofs.Read.forms-read
+pub forms_forms_read : forms.specs.Theorems.FormsRead
+forms_forms_read = forms.proofs.Read.forms_read
 
 -- hex
-pub hex-digits-kept : hexadecimal.specs.Former.DigitsKept
-hex-digits-kept = hexadecimal.proofs.Former.digits-kept
+pub hex_digits_kept : hexadecimal.specs.Former.DigitsKept
+hex_digits_kept = hexadecimal.proofs.Former.digits_kept
 
-pub hex-digit-exactly : hexadecimal.specs.Theorems.DigitExactly
-hex-digit-exactly = hexadecimal.proofs.Theorems.digit-exactly
+pub hex_digit_exactly : hexadecimal.specs.Theorems.DigitExactly
+hex_digit_exactly = hexadecimal.proofs.Theorems.digit_exactly
 
-pub hex-digit-written : hexadecimal.specs.Theorems.DigitWritten
-hex-digit-written = hexadecimal.proofs.Written.digit-written
+pub hex_digit_written : hexadecimal.specs.Theorems.DigitWritten
+hex_digit_written = hexadecimal.proofs.Written.digit_written
 
-pub hex-digit-read-back : hexadecimal.specs.Theorems.DigitReadBack
-hex-digit-read-back = hexadecimal.proofs.Theorems.digit-read-back
+pub hex_digit_read_back : hexadecimal.specs.Theorems.DigitReadBack
+hex_digit_read_back = hexadecimal.proofs.Theorems.digit_read_back
 
 -- lines
-pub lines-lines-joined : lines.specs.Theorems.LinesJoined
-lines-lines-joined = lines.proofs.Theorems.lines-joined
+pub lines_lines_joined : lines.specs.Theorems.LinesJoined
+lines_lines_joined = lines.proofs.Theorems.lines_joined
 
-pub lines-lines-start : lines.specs.Theorems.LinesStart
-lines-lines-start = lines.proofs.Theorems.lines_start
+pub lines_lines_start : lines.specs.Theorems.LinesStart
+lines_lines_start = lines.proofs.Theorems.lines_start
 
-pub lines-number-exactly : lines.specs.Theorems.NumberExactly
-lines-number-exactly = lines.proofs.Grammar.number-exactly
+pub lines_number_exactly : lines.specs.Theorems.NumberExactly
+lines_number_exactly = lines.proofs.Grammar.number_exactly
 
-pub lines-entry-exactly : lines.specs.Theorems.EntryExactly
-lines-entry-exactly = lines.proofs.Grammar.entry-exactly
+pub lines_entry_exactly : lines.specs.Theorems.EntryExactly
+lines_entry_exactly = lines.proofs.Grammar.entry_exactly
 
-pub lines-blank-exactly : lines.specs.Theorems.BlankExactly
-lines-blank-exactly = lines.proofs.Grammar.blank-exactly
+pub lines_blank_exactly : lines.specs.Theorems.BlankExactly
+lines_blank_exactly = lines.proofs.Grammar.blank_exactly
 
-pub lines-lines-apart : lines.specs.Theorems.LinesApart
-lines-lines-apart = lines.proofs.Said.lines-apart
+pub lines_lines_apart : lines.specs.Theorems.LinesApart
+lines_lines_apart = lines.proofs.Said.lines_apart
 
-pub lines-said-exactly : lines.specs.Theorems.SaidExactly
-lines-said-exactly = lines.proofs.Said.said-exactly
+pub lines_said_exactly : lines.specs.Theorems.SaidExactly
+lines_said_exactly = lines.proofs.Said.said_exactly
 
-pub lines-find-first : lines.specs.Theorems.FindFirst
-lines-find-first = lines.proofs.Theorems.find_first
+pub lines_find_first : lines.specs.Theorems.FindFirst
+lines_find_first = lines.proofs.Theorems.find_first
 
-pub lines-comment-exactly : lines.specs.Theorems.CommentExactly
-lines-comment-exactly = lines.proofs.Theorems.comment-exactly
+pub lines_comment_exactly : lines.specs.Theorems.CommentExactly
+lines_comment_exactly = lines.proofs.Theorems.comment_exactly
 
-pub lines-comment-bytes : lines.specs.Theorems.CommentBytes
-lines-comment-bytes = lines.proofs.CommentBytes.comment-bytes
+pub lines_comment_bytes : lines.specs.Theorems.CommentBytes
+lines_comment_bytes = lines.proofs.CommentBytes.comment_bytes
 
-pub lines-word-read-back : lines.specs.Theorems.WordReadBack
-lines-word-read-back = lines.proofs.ReadBack.word-read-back
+pub lines_word_read_back : lines.specs.Theorems.WordReadBack
+lines_word_read_back = lines.proofs.ReadBack.word_read_back
 
 -- listing
-pub listing-numbers : listing.specs.Theorems.Numbers
-listing-numbers = listing.proofs.Numbers.numbers
+pub listing_numbers : listing.specs.Theorems.Numbers
+listing_numbers = listing.proofs.Numbers.numbers
 
-pub listing-refused-exactly : listing.specs.Theorems.RefusedExactly
-listing-refused-exactly = listing.proofs.Theorems.refused-exactly
+pub listing_refused_exactly : listing.specs.Theorems.RefusedExactly
+listing_refused_exactly = listing.proofs.Theorems.refused_exactly
 
-pub listing-refused-unchanged : listing.specs.Theorems.RefusedUnchanged
-listing-refused-unchanged = listing.proofs.Theorems.refused-unchanged
+pub listing_refused_unchanged : listing.specs.Theorems.RefusedUnchanged
+listing_refused_unchanged = listing.proofs.Theorems.refused_unchanged
 
-pub listing-stored-exactly : listing.specs.Theorems.StoredExactly
-listing-stored-exactly = listing.proofs.Theorems.stored-exactly
+pub listing_stored_exactly : listing.specs.Theorems.StoredExactly
+listing_stored_exactly = listing.proofs.Theorems.stored_exactly
 
-pub listing-count-exactly : listing.specs.Theorems.CountExactly
-listing-count-exactly = listing.proofs.Theorems.count-exactly
+pub listing_count_exactly : listing.specs.Theorems.CountExactly
+listing_count_exactly = listing.proofs.Theorems.count_exactly
 
-pub listing-stored-at-most : listing.specs.Theorems.StoredAtMost
-listing-stored-at-most = listing.proofs.Theorems.stored-at-most
+pub listing_stored_at_most : listing.specs.Theorems.StoredAtMost
+listing_stored_at_most = listing.proofs.Theorems.stored_at_most
 
-pub listing-rising : listing.specs.Theorems.Rising
-listing-rising = listing.proofs.Theorems.rising
+pub listing_rising : listing.specs.Theorems.Rising
+listing_rising = listing.proofs.Theorems.rising
 
-pub listing-words-stored : listing.specs.Theorems.WordsStored
-listing-words-stored = listing.proofs.Theorems.words-stored
+pub listing_words_stored : listing.specs.Theorems.WordsStored
+listing_words_stored = listing.proofs.Theorems.words_stored
 
-pub listing-stored-twice : listing.specs.Theorems.StoredTwice
-listing-stored-twice = listing.proofs.Theorems.stored-twice
+pub listing_stored_twice : listing.specs.Theorems.StoredTwice
+listing_stored_twice = listing.proofs.Theorems.stored_twice
 
-pub listing-faults-apart : listing.specs.Theorems.FaultsApart
-listing-faults-apart = listing.proofs.Apart.faults-apart
+pub listing_faults_apart : listing.specs.Theorems.FaultsApart
+listing_faults_apart = listing.proofs.Apart.faults_apart
 
 -- core
-pub core-core-parts : r8_core.specs.Theorems.CoreParts
-core-core-parts = r8_core.proofs.Parts.core-parts
+pub core_core_parts : r8_core.specs.Theorems.CoreParts
+core_core_parts = r8_core.proofs.Parts.core_parts
 
-pub core-spent-exactly : r8_core.specs.Theorems.SpentExactly
-core-spent-exactly = r8_core.proofs.Parts.spent-exactly
+pub core_spent_exactly : r8_core.specs.Theorems.SpentExactly
+core_spent_exactly = r8_core.proofs.Parts.spent_exactly
 
-pub core-one-instruction : r8_core.specs.Theorems.OneInstruction
-core-one-instruction = r8_core.proofs.OneInstruction.one-instruction
+pub core_one_instruction : r8_core.specs.Theorems.OneInstruction
+core_one_instruction = r8_core.proofs.OneInstruction.one_instruction
 
-pub core-foreign-core : r8_core.specs.Theorems.ForeignCore
-core-foreign-core = r8_core.proofs.Foreign.foreign-core
+pub core_foreign_core : r8_core.specs.Theorems.ForeignCore
+core_foreign_core = r8_core.proofs.Foreign.foreign_core
 
-pub core-bench : r8_core.specs.Theorems.Bench
-core-bench = r8_core.proofs.Bench.bench
+pub core_bench : r8_core.specs.Theorems.Bench
+core_bench = r8_core.proofs.Bench.bench
 
-pub core-numbers-exactly : r8_core.specs.TheoremsOfCalls.NumbersExactly
-core-numbers-exactly = r8_core.proofs.Refusals.numbers-exactly
+pub core_numbers_exactly : r8_core.specs.TheoremsOfCalls.NumbersExactly
+core_numbers_exactly = r8_core.proofs.Refusals.numbers_exactly
 
-pub core-refusals-unchanged : r8_core.specs.TheoremsOfCalls.RefusalsUnchanged
-core-refusals-unchanged = r8_core.proofs.Refusals.refusals-unchanged
+pub core_refusals_unchanged : r8_core.specs.TheoremsOfCalls.RefusalsUnchanged
+core_refusals_unchanged = r8_core.proofs.Refusals.refusals_unchanged
 
-pub core-run-taken : r8_core.specs.TheoremsOfCalls.RunTaken
-core-run-taken = r8_core.proofs.Taken.run-taken
+pub core_run_taken : r8_core.specs.TheoremsOfCalls.RunTaken
+core_run_taken = r8_core.proofs.Taken.run_taken
 
-pub core-run-again : r8_core.specs.TheoremsOfCalls.RunAgain
-core-run-again = r8_core.proofs.Again.run-again
+pub core_run_again : r8_core.specs.TheoremsOfCalls.RunAgain
+core_run_again = r8_core.proofs.Again.run_again
 
-pub core-run-by-cycles : r8_core.specs.TheoremsOfCalls.RunByCycles
-core-run-by-cycles = r8_core.proofs.Taken.run-by-cycles
+pub core_run_by_cycles : r8_core.specs.TheoremsOfCalls.RunByCycles
+core_run_by_cycles = r8_core.proofs.Taken.run_by_cycles
 
-pub core-cycle-exactly : r8_core.specs.TheoremsOfCalls.CycleExactly
-core-cycle-exactly = r8_core.proofs.Taken.cycle-exactly
+pub core_cycle_exactly : r8_core.specs.TheoremsOfCalls.CycleExactly
+core_cycle_exactly = r8_core.proofs.Taken.cycle_exactly
 
-pub core-step-taken : r8_core.specs.TheoremsOfCalls.StepTaken
-core-step-taken = r8_core.proofs.Taken.step-taken
+pub core_step_taken : r8_core.specs.TheoremsOfCalls.StepTaken
+core_step_taken = r8_core.proofs.Taken.step_taken
 
-pub core-others-taken : r8_core.specs.TheoremsOfCalls.OthersTaken
-core-others-taken = r8_core.proofs.Taken.others-taken
+pub core_others_taken : r8_core.specs.TheoremsOfCalls.OthersTaken
+core_others_taken = r8_core.proofs.Taken.others_taken
 
-pub core-read-apart : r8_core.specs.TheoremsOfCalls.ReadApart
-core-read-apart = r8_core.proofs.Apart.read-apart
+pub core_read_apart : r8_core.specs.TheoremsOfCalls.ReadApart
+core_read_apart = r8_core.proofs.Apart.read_apart
 
-pub core-read-exactly : r8_core.specs.TheoremsOfCalls.ReadExactly
-core-read-exactly = r8_core.proofs.Apart.read-exactly
+pub core_read_exactly : r8_core.specs.TheoremsOfCalls.ReadExactly
+core_read_exactly = r8_core.proofs.Apart.read_exactly
 
 -- dump
-pub dump-dump-numbers : dump.specs.Theorems.DumpNumbers
-dump-dump-numbers = dump.proofs.Refusals.dump-numbers
+pub dump_dump_numbers : dump.specs.Theorems.DumpNumbers
+dump_dump_numbers = dump.proofs.Refusals.dump_numbers_lem
 
-pub dump-dump-bytes : dump.specs.Theorems.DumpBytes
-dump-dump-bytes = dump.proofs.Bytes.dump-bytes
+pub dump_dump_bytes : dump.specs.Theorems.DumpBytes
+dump_dump_bytes = dump.proofs.Bytes.dump_bytes
 
-pub dump-loaded-back : dump.specs.Theorems.LoadedBack
-dump-loaded-back = dump.proofs.LoadedBack.loaded-back
+pub dump_loaded_back : dump.specs.Theorems.LoadedBack
+dump_loaded_back = dump.proofs.LoadedBack.loaded_back
 
-pub dump-whole-memory : dump.specs.Theorems.WholeMemory
-dump-whole-memory = dump.proofs.LoadedBack.whole-memory
+pub dump_whole_memory : dump.specs.Theorems.WholeMemory
+dump_whole_memory = dump.proofs.LoadedBack.whole_memory
 
-pub dump-dump-apart : dump.specs.Theorems.DumpApart
-dump-dump-apart = dump.proofs.Apart.dump-apart
+pub dump_dump_apart : dump.specs.Theorems.DumpApart
+dump_dump_apart = dump.proofs.Apart.dump_apart
 
-pub dump-dump-read : dump.specs.Theorems.DumpRead
-dump-dump-read = dump.proofs.Apart.dump-read
+pub dump_dump_read : dump.specs.Theorems.DumpRead
+dump_dump_read = dump.proofs.Apart.dump_read
 
 -- text
-pub text-letters-apart : text.specs.Theorems.LettersApart
-text-letters-apart = text.proofs.Apart.letters-apart
+pub text_letters_apart : text.specs.Theorems.LettersApart
+text_letters_apart = text.proofs.Apart.letters_apart
 
-pub text-flags-apart : text.specs.Theorems.FlagsApart
-text-flags-apart = text.proofs.Apart.flags-apart
+pub text_flags_apart : text.specs.Theorems.FlagsApart
+text_flags_apart = text.proofs.Apart.flags_apart
 
-pub text-decimal-back : text.specs.Theorems.DecimalBack
-text-decimal-back = text.proofs.Digits.decimal-back
+pub text_decimal_back : text.specs.Theorems.DecimalBack
+text_decimal_back = text.proofs.Digits.decimal_back
 
-pub text-decimal-digits : text.specs.Theorems.DecimalDigits
-text-decimal-digits = text.proofs.Digits.decimal-digits
+pub text_decimal_digits : text.specs.Theorems.DecimalDigits
+text_decimal_digits = text.proofs.Digits.decimal_digits
 
-pub text-no-leading-zero : text.specs.Theorems.NoLeadingZero
-text-no-leading-zero = text.proofs.Digits.no-leading-zero
+pub text_no_leading_zero : text.specs.Theorems.NoLeadingZero
+text_no_leading_zero = text.proofs.Digits.no_leading_zero
 
-pub text-decimal-at-most : text.specs.Theorems.DecimalAtMost
-text-decimal-at-most = text.proofs.Digits.decimal-at-most
+pub text_decimal_at_most : text.specs.Theorems.DecimalAtMost
+text_decimal_at_most = text.proofs.Digits.decimal_at_most
 
-pub text-as-shown : text.specs.Theorems.AsShown
-text-as-shown = text.proofs.Shown.as-shown
+pub text_as_shown : text.specs.Theorems.AsShown
+text_as_shown = text.proofs.Shown.as_shown
 
 -- layout
-pub layout-answer-size : layout.specs.Theorems.AnswerSize
-layout-answer-size = layout.proofs.Theorems.answer-size
+pub layout_answer_size : layout.specs.Theorems.AnswerSize
+layout_answer_size = layout.proofs.Theorems.answer_size_lem
 
-pub layout-answers-apart : layout.specs.Theorems.AnswersApart
-layout-answers-apart = layout.proofs.Theorems.answers-apart
+pub layout_answers_apart : layout.specs.Theorems.AnswersApart
+layout_answers_apart = layout.proofs.Theorems.answers_apart
 
-pub layout-left-apart : layout.specs.Theorems.LeftApart
-layout-left-apart = layout.proofs.Theorems.left-apart
+pub layout_left_apart : layout.specs.Theorems.LeftApart
+layout_left_apart = layout.proofs.Theorems.left_apart
 
-pub layout-places : layout.specs.Theorems.Places
-layout-places = layout.proofs.Theorems.places
+pub layout_places : layout.specs.Theorems.Places
+layout_places = layout.proofs.Theorems.places
 
 -- reference
-pub reference-cycles-exactly : reference.specs.Cycles.CyclesExactly
-reference-cycles-exactly = reference.proofs.Cycles.cycles-exactly
+pub reference_cycles_exactly : reference.specs.Cycles.CyclesExactly
+reference_cycles_exactly = reference.proofs.Cycles.cycles_exactly
 
-pub reference-forms-exactly : reference.specs.Forms.FormsExactly
-reference-forms-exactly = reference.proofs.Forms.forms-exactly
+pub reference_forms_exactly : reference.specs.Forms.FormsExactly
+reference_forms_exactly = reference.proofs.Forms.forms_exactly
 
-pub reference-instructions-exactly : reference.specs.Instructions.InstructionsExactly
-reference-instructions-exactly = reference.proofs.Instructions.instructions-exactly
+pub reference_instructions_exactly : reference.specs.Instructions.InstructionsExactly
+reference_instructions_exactly = reference.proofs.Instructions.instructions_exactly
 
-pub reference-every-word : reference.specs.Instructions.EveryWord
-reference-every-word = reference.proofs.Instructions.every-word
+pub reference_every_word : reference.specs.Instructions.EveryWord
+reference_every_word = reference.proofs.Instructions.every_word
 
-pub reference-fresh-exactly : reference.specs.Theorems.FreshExactly
-reference-fresh-exactly = reference.proofs.Theorems.fresh-exactly
+pub reference_fresh_exactly : reference.specs.Theorems.FreshExactly
+reference_fresh_exactly = reference.proofs.Theorems.fresh_exactly
 
-pub reference-unused-ignored : reference.specs.Theorems.UnusedIgnored
-reference-unused-ignored = reference.proofs.Theorems.unused-ignored
+pub reference_unused_ignored : reference.specs.Theorems.UnusedIgnored
+reference_unused_ignored = reference.proofs.Theorems.unused_ignored
 
 -- plays
-pub plays-play-exactly : plays.specs.Theorems.PlayExactly
-plays-play-exactly = plays.proofs.Plays.play-exactly
+pub plays_play_exactly : plays.specs.Theorems.PlayExactly
+plays_play_exactly = plays.proofs.Plays.play_exactly
 
-pub plays-each-exactly : plays.specs.Theorems.EachExactly
-plays-each-exactly = plays.proofs.Plays.each-exactly
+pub plays_each_exactly : plays.specs.Theorems.EachExactly
+plays_each_exactly = plays.proofs.Plays.each_exactly
 
-pub plays-plays-agree : plays.specs.Theorems.PlaysAgree
-plays-plays-agree = plays.proofs.Plays.plays-agree
+pub plays_plays_agree : plays.specs.Theorems.PlaysAgree
+plays_plays_agree = plays.proofs.Plays.plays_agree
 
-pub plays-plays-same : plays.specs.Theorems.PlaysSame
-plays-plays-same = plays.proofs.Plays.plays-same
+pub plays_plays_same : plays.specs.Theorems.PlaysSame
+plays_plays_same = plays.proofs.Plays.plays_same
 
-pub plays-plays-counted : plays.specs.Theorems.PlaysCounted
-plays-plays-counted = plays.proofs.Plays.plays-counted
+pub plays_plays_counted : plays.specs.Theorems.PlaysCounted
+plays_plays_counted = plays.proofs.Plays.plays_counted
 
 -- machine
-pub machine-every-list : machine.specs.Theorem.EveryList
-machine-every-list = machine.proofs.Theorem.every-list
+pub machine_every_list : machine.specs.Theorem.EveryList
+machine_every_list = machine.proofs.Theorem.every_list
 
-pub machine-every-moment : machine.specs.Theorem.EveryMoment
-machine-every-moment = machine.proofs.Theorem.every-moment
+pub machine_every_moment : machine.specs.Theorem.EveryMoment
+machine_every_moment = machine.proofs.Theorem.every_moment
 
-pub machine-every-list-made : machine.specs.Theorem.EveryListMade
-machine-every-list-made = machine.proofs.Made.every-list-made
+pub machine_every_list_made : machine.specs.Theorem.EveryListMade
+machine_every_list_made = machine.proofs.Made.every_list_made
 
-pub machine-contracts-kept : machine.specs.Theorem.ContractsKept
-machine-contracts-kept = machine.proofs.Made.contracts-kept
+pub machine_contracts_kept : machine.specs.Theorem.ContractsKept
+machine_contracts_kept = machine.proofs.Made.contracts_kept
 
-pub machine-nothing-asked : machine.specs.Theorem.NothingAsked
-machine-nothing-asked = machine.proofs.Made.nothing-asked
+pub machine_nothing_asked : machine.specs.Theorem.NothingAsked
+machine_nothing_asked = machine.proofs.Made.nothing_asked
 
 -- replay
-pub replay-core-told : replay.specs.Theorems.CoreTold
-replay-core-told = replay.proofs.Told.core-told
+pub replay_core_told : replay.specs.Theorems.CoreTold
+replay_core_told = replay.proofs.Told.core_told
 
-pub replay-call-told : replay.specs.Theorems.CallTold
-replay-call-told = replay.proofs.Told.call-told
+pub replay_call_told : replay.specs.Theorems.CallTold
+replay_call_told = replay.proofs.Told.call_told
 
 -- script
-pub script-script-played : script.specs.Played.ScriptPlayed
-script-script-played = script.proofs.Played.script-played
+pub script_script_played : script.specs.Played.ScriptPlayed
+script_script_played = script.proofs.Played.script_played
 
-pub script-run-exactly : script.specs.Said.RunExactly
-script-run-exactly = script.proofs.Said.run-exactly
+pub script_run_exactly : script.specs.Said.RunExactly
+script_run_exactly = script.proofs.Said.run_exactly
 
-pub script-listing-exactly : script.specs.Said.ListingExactly
-script-listing-exactly = script.proofs.Said.listing-exactly
+pub script_listing_exactly : script.specs.Said.ListingExactly
+script_listing_exactly = script.proofs.Said.listing_exactly
 
-pub script-words-exactly : script.specs.Said.WordsExactly
-script-words-exactly = script.proofs.Said.words-exactly
+pub script_words_exactly : script.specs.Said.WordsExactly
+script_words_exactly = script.proofs.Said.words_exactly
 
-pub script-load-exactly : script.specs.Said.LoadExactly
-script-load-exactly = script.proofs.Said.load-exactly
+pub script_load_exactly : script.specs.Said.LoadExactly
+script_load_exactly = script.proofs.Said.load_exactly
 
-pub script-few-calls : script.specs.Theorems.FewCalls
-script-few-calls = script.proofs.Theorems.few-calls
+pub script_few_calls : script.specs.Theorems.FewCalls
+script_few_calls = script.proofs.Theorems.few_calls
 
-pub script-each-is-call : script.specs.Theorems.EachIsCall
-script-each-is-call = script.proofs.Theorems.each-is-call
+pub script_each_is_call : script.specs.Theorems.EachIsCall
+script_each_is_call = script.proofs.Theorems.each_is_call
 
 -- trace
-pub trace-rows-of-the-run : trace.specs.Theorems.RowsOfTheRun
-trace-rows-of-the-run = trace.proofs.Theorems.rows-of-the-run
+pub trace_rows_of_the_run : trace.specs.Theorems.RowsOfTheRun
+trace_rows_of_the_run = trace.proofs.Theorems.rows_of_the_run
 
-pub trace-cycles-add-up : trace.specs.Theorems.CyclesAddUp
-trace-cycles-add-up = trace.proofs.Theorems.cycles-add-up
+pub trace_cycles_add_up : trace.specs.Theorems.CyclesAddUp
+trace_cycles_add_up = trace.proofs.Theorems.cycles_add_up
 
-pub trace-room-always : trace.specs.Theorems.RoomAlways
-trace-room-always = trace.proofs.Theorems.room-always
+pub trace_room_always : trace.specs.Theorems.RoomAlways
+trace_room_always = trace.proofs.Theorems.room_always
 
 -- r8
-pub r8-core-back : r8.specs.Theorems.CoreBack
-r8-core-back = r8.proofs.Theorems.core-back
+pub r8_core_back : r8.specs.Theorems.CoreBack
+r8_core_back = r8.proofs.Theorems.core_back
 
-pub r8-numbers-back : r8.specs.Theorems.NumbersBack
-r8-numbers-back = r8.proofs.Theorems.numbers-back
+pub r8_numbers_back : r8.specs.Theorems.NumbersBack
+r8_numbers_back = r8.proofs.Theorems.numbers_back
 
-pub r8-held-on : r8.specs.Theorems.HeldOn
-r8-held-on = r8.proofs.Theorems.held_on
+pub r8_held_on : r8.specs.Theorems.HeldOn
+r8_held_on = r8.proofs.Theorems.held_on
 
-pub r8-call-after-call : r8.specs.Theorems.CallAfterCall
-r8-call-after-call = r8.proofs.Theorems.call-after-call
+pub r8_call_after_call : r8.specs.Theorems.CallAfterCall
+r8_call_after_call = r8.proofs.Theorems.call_after_call
 
-pub r8-run-in-pieces : r8.specs.Theorems.RunInPieces
-r8-run-in-pieces = r8.proofs.Theorems.run-in-pieces
+pub r8_run_in_pieces : r8.specs.Theorems.RunInPieces
+r8_run_in_pieces = r8.proofs.Theorems.run_in_pieces
 
-pub r8-codes-apart : r8.specs.Theorems.CodesApart
-r8-codes-apart = r8.proofs.Apart.codes-apart
+pub r8_codes_apart : r8.specs.Theorems.CodesApart
+r8_codes_apart = r8.proofs.Apart.codes_apart
 
-pub r8-replay-apart : r8.specs.Theorems.ReplayApart
-r8-replay-apart = r8.proofs.Apart.replay-apart
+pub r8_replay_apart : r8.specs.Theorems.ReplayApart
+r8_replay_apart = r8.proofs.Apart.replay_apart
 
-pub r8-call-codes : r8.specs.Theorems.CallCodes
-r8-call-codes = r8.proofs.Exactly.call-codes
+pub r8_call_codes : r8.specs.Theorems.CallCodes
+r8_call_codes = r8.proofs.Exactly.call_codes
 
-pub r8-form-codes : r8.specs.Theorems.FormCodes
-r8-form-codes = r8.proofs.Exactly.form-codes
+pub r8_form_codes : r8.specs.Theorems.FormCodes
+r8_form_codes = r8.proofs.Exactly.form_codes
 
-pub r8-dump-codes : r8.specs.Theorems.DumpCodes
-r8-dump-codes = r8.proofs.Dump.dump-codes
+pub r8_dump_codes : r8.specs.Theorems.DumpCodes
+r8_dump_codes = r8.proofs.Dump.dump_codes
 
-pub r8-trace-codes : r8.specs.Theorems.TraceCodes
-r8-trace-codes = r8.proofs.Exactly.trace-codes
+pub r8_trace_codes : r8.specs.Theorems.TraceCodes
+r8_trace_codes = r8.proofs.Exactly.trace_codes
 
 -- output
-pub output-put-whole : output.specs.Theorems.PutWhole
-output-put-whole = output.proofs.Stores.put_whole
+pub output_put_whole : output.specs.Theorems.PutWhole
+output_put_whole = output.proofs.Stores.put_whole
 
 -- printed
-pub printed-lines-of-steps : printed.specs.Theorems.LinesOfSteps
-printed-lines-of-steps = printed.proofs.Lines.lines-of-steps
+pub printed_lines_of_steps : printed.specs.Theorems.LinesOfSteps
+printed_lines_of_steps = printed.proofs.Lines.lines_of_steps
 
-pub printed-text-fits : printed.specs.Theorems.TextFits
-printed-text-fits = printed.proofs.Fits.text-fits
+pub printed_text_fits : printed.specs.Theorems.TextFits
+printed_text_fits = printed.proofs.Fits.text_fits
 
-pub printed-page-holds : printed.specs.Theorems.PageHolds
-printed-page-holds = printed.proofs.Fits.page-holds
+pub printed_page_holds : printed.specs.Theorems.PageHolds
+printed_page_holds = printed.proofs.Fits.page_holds

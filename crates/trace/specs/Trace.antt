@@ -1,44 +1,44 @@
 -- Document 01, 'Proof bench', program `r8trace`: what is found of a listing, as numbers.
 use Rattle.std.specs.Prelude.{Bool, true, false, cond, List, [], ◌∷◌, ◌++◌, ℕ, zero, suc, ◌+◌, ◌*◌, ltb, length, drop, replicate}
 use Rattle.words.specs.Memory.{word_at}
-use Rattle.listing.specs.Answers.{faultNumber}
-use Rattle.r8_core.specs.Cores.{freshCore}
-use Rattle.r8_core.specs.Calls.{Answer, done, stored, ran, viewed, refused, refusedAt, Reply, load, run, step}
+use Rattle.listing.specs.Answers.{fault_number}
+use Rattle.r8_core.specs.Cores.{fresh_core}
+use Rattle.r8_core.specs.Calls.{Answer, done, stored, ran, viewed, refused, refused_at, Reply, load, run, step}
 use Rattle.r8_core.specs.declared.Core.{Core}
-use Rattle.layout.specs.Layout.{flagsNumber}
+use Rattle.layout.specs.Layout.{flags_number}
 use Rattle.trace.specs.declared.TraceAnswer.{TraceAnswer}
 use Rattle.trace.specs.declared.TraceAnswer.TheVariants.{Traced, Faulty, TooLong, NoRoom}
 
 -- the cycles and the instructions of an answer to a run or a step; of another answer, none
-abbrev pub cyclesOf : Answer → ℕ
-cyclesOf done = 0
-cyclesOf (stored count) = 0
-cyclesOf (ran used finished end) = used
-cyclesOf (viewed v due clock) = 0
-cyclesOf (refused number) = 0
-cyclesOf (refusedAt number offset) = 0
+abbrev pub cycles_of : Answer → ℕ
+cycles_of done = 0
+cycles_of (stored count) = 0
+cycles_of (ran used finished end) = used
+cycles_of (viewed v due clock) = 0
+cycles_of (refused number) = 0
+cycles_of (refused_at number offset) = 0
 
-abbrev pub instructionsOf : Answer → ℕ
-instructionsOf done = 0
-instructionsOf (stored count) = 0
-instructionsOf (ran used finished end) = finished
-instructionsOf (viewed v due clock) = 0
-instructionsOf (refused number) = 0
-instructionsOf (refusedAt number offset) = 0
+abbrev pub instructions_of : Answer → ℕ
+instructions_of done = 0
+instructions_of (stored count) = 0
+instructions_of (ran used finished end) = finished
+instructions_of (viewed v due clock) = 0
+instructions_of (refused number) = 0
+instructions_of (refused_at number offset) = 0
 
 -- did a load store its listing
-abbrev pub isStored : Answer → Bool
-isStored done = false
-isStored (stored count) = true
-isStored (ran used finished end) = false
-isStored (viewed v due clock) = false
-isStored (refused number) = false
-isStored (refusedAt number offset) = false
+abbrev pub is_stored : Answer → Bool
+is_stored done = false
+is_stored (stored count) = true
+is_stored (ran used finished end) = false
+is_stored (viewed v due clock) = false
+is_stored (refused number) = false
+is_stored (refused_at number offset) = false
 
 -- 'A line per finished instruction: address, word, cycles, NZCV after', as four numbers: of the instruction that a step of this core does
 abbrev pub row_of : Core → List ℕ → Reply → List ℕ
 row_of core memory stepped =
-    core.pc ∷ word_at memory core.pc ∷ cyclesOf stepped.answer ∷ flagsNumber stepped.core.flags ∷ []
+    core.pc ∷ word_at memory core.pc ∷ cycles_of stepped.answer ∷ flags_number stepped.core.flags ∷ []
 
 -- the rows of so many steps, one after the other
 unfoldable pub rows_of : ℕ → Core → List ℕ → List ℕ
@@ -51,8 +51,8 @@ rows_of (suc n) core memory =
 -- the rows
 pub data Finding : Type 0 where
   answered : Answer → Finding
-  tooLong : Finding
-  noRoom : Finding
+  too_long : Finding
+  no_room : Finding
 
 -- it, and the rows as they then are
 pub record Trace : Type 0 where
@@ -60,34 +60,34 @@ pub record Trace : Type 0 where
   pub rows : List ℕ
 
 -- a row for each instruction that a run finished; what is past them stays; without room for all of them, nothing is written
-abbrev pub traceOf : Answer → List ℕ → List ℕ → Trace
-traceOf answer memory rows =
-    let count : ℕ = instructionsOf answer in
-    cond (ltb (length rows) (4 * count)) (record { finding = noRoom; rows = rows })
-    (record { finding = answered answer; rows = rows_of count freshCore memory ++ drop (4 * count) rows })
+abbrev pub trace_of : Answer → List ℕ → List ℕ → Trace
+trace_of answer memory rows =
+    let count : ℕ = instructions_of answer in
+    cond (ltb (length rows) (4 * count)) (record { finding = no_room; rows = rows })
+    (record { finding = answered answer; rows = rows_of count fresh_core memory ++ drop (4 * count) rows })
 
 -- 'fresh core, 1,000 cycles'
-unfoldable pub tracedOn : List ℕ → List ℕ → Trace
-tracedOn memory rows = traceOf (run 1000 freshCore memory).answer memory rows
+unfoldable pub traced_on : List ℕ → List ℕ → Trace
+traced_on memory rows = trace_of (run 1000 fresh_core memory).answer memory rows
 
 -- a listing that is loaded is traced, of another there is 'only `refused N at offset`'
-abbrev pub afterLoad : Reply → List ℕ → Trace
-afterLoad loaded rows =
-    cond (isStored loaded.answer) (tracedOn loaded.memory rows) (record { finding = answered loaded.answer; rows = rows })
+abbrev pub after_load : Reply → List ℕ → Trace
+after_load loaded rows =
+    cond (is_stored loaded.answer) (traced_on loaded.memory rows) (record { finding = answered loaded.answer; rows = rows })
 
 -- 'reads a listing of at most 65,536 bytes .. (`too long` otherwise), L = 16,384, all words zero before the load'
 unfoldable pub traced : List ℕ → List ℕ → Trace
 traced listing rows =
-    cond (ltb 65536 (length listing)) (record { finding = tooLong; rows = rows })
-    (afterLoad (load listing freshCore (replicate 16384 0)) rows)
+    cond (ltb 65536 (length listing)) (record { finding = too_long; rows = rows })
+    (after_load (load listing fresh_core (replicate 16384 0)) rows)
 
 -- what the code gives back, read so. It has cases for the refusals of lines alone: that it is what `traced` says means that no other
 -- refusal arises
-abbrev pub findingOf : TraceAnswer → Finding
-findingOf (Traced cycles instructions end) = answered (ran cycles.0 instructions.0 end)
-findingOf (Faulty fault offset) = answered (refusedAt (faultNumber fault) offset)
-findingOf TooLong = tooLong
-findingOf NoRoom = noRoom
+abbrev pub finding_of : TraceAnswer → Finding
+finding_of (Traced cycles instructions end) = answered (ran cycles.0 instructions.0 end)
+finding_of (Faulty fault offset) = answered (refused_at (fault_number fault) offset)
+finding_of TooLong = too_long
+finding_of NoRoom = no_room
 
-abbrev pub traceGave : TraceAnswer → List ℕ → Trace
-traceGave answer rows = record { finding = findingOf answer; rows = rows }
+abbrev pub trace_gave : TraceAnswer → List ℕ → Trace
+trace_gave answer rows = record { finding = finding_of answer; rows = rows }

@@ -1,7 +1,7 @@
 // The trace of a listing, as numbers: what the program r8trace writes as text.
 ghost use Rattle.std.specs.Prelude.{◌≡◌, ◌∷◌, [], ◌++◌, ◌+◌, ◌*◌, ◌≤◌, length, take, drop};
-ghost use Rattle.r8_core.specs.Answers.{runAnswerOf};
-ghost use Rattle.trace.specs.Trace.{cyclesOf, rows_of, tracedOn, traced, traceGave};
+ghost use Rattle.r8_core.specs.Answers.{run_answer_of};
+ghost use Rattle.trace.specs.Trace.{cycles_of, rows_of, traced_on, traced, trace_gave};
 
 use isa::Cycles;
 use listing::Fault;
@@ -23,7 +23,7 @@ pub enum TraceAnswer {
 
 // The cycles that a step used. A refused step counts as 0.
 fn cycles_of(answer: RunAnswer) -> Cycles
-    ensures { result.0 ≡ cyclesOf (runAnswerOf answer) }
+    ensures { result.0 ≡ cycles_of (run_answer_of answer) }
 {
     match answer {
         RunAnswer::Ran {
@@ -72,7 +72,7 @@ fn put_rows(rows: &mut [u64], mut core: Core, count: u32, memory: &mut [u16])
 // core and this memory are never refused.
 fn trace_memory(memory: &mut [u16; 16384], rows: &mut [u64]) -> TraceAnswer
     requires { length memory.old ≡ 16384 }
-    ensures { traceGave result rows.new ≡ tracedOn memory.old rows.old }
+    ensures { trace_gave result rows.new ≡ traced_on memory.old rows.old }
 {
     let mut copy = *memory;
     let core = r8_core::fresh();
@@ -100,7 +100,7 @@ fn trace_memory(memory: &mut [u16; 16384], rows: &mut [u64]) -> TraceAnswer
 // Loads a listing into 16,384 zero words, runs a fresh core for 1,000 cycles, and puts four numbers into the rows for each instruction
 // finished: address, word, cycles, and the flags after it as `layout::flags_number` gives them.
 pub fn trace(listing: &[u8], rows: &mut [u64]) -> TraceAnswer
-    ensures { traceGave result rows.new ≡ traced listing.now rows.old }
+    ensures { trace_gave result rows.new ≡ traced listing.now rows.old }
 {
     if 65536 < listing.len() {
         return TraceAnswer::TooLong;

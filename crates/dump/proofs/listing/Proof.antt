@@ -6,17 +6,17 @@ use native.Mathlib.Omega.{arith}
 use borrow.Author.Tests.{ltb-false, lt-ltb, le-ltb}
 use borrow.Author.Rules.{rules}
 use lib.ListN.{length}
-use Rattle.refusals.specs.Refusals.{wrongLength}
-use Rattle.dump.specs.Dump.{pastEnd, dumpGave}
+use Rattle.refusals.specs.Refusals.{wrong_length}
+use Rattle.dump.specs.Dump.{past_end, dump_gave}
 use Rattle.dump.specs.declared.DumpAnswer.TheVariants.{Written}
-use Rattle.dump.proofs.Numbers.{right-length, wrong, past, short, taken}
+use Rattle.dump.proofs.Numbers.{right_length, wrong, past, short, taken}
 use Rattle.dump.proofs.listing.Statement.{statement}
 use Rattle.dump.proofs.listing.Tie as tie
 
 -- past the first two tests
 passed : (c : tie.Else2)
     → let a = c.before.before.before.before.before.before.args in
-    (wrongLength (length a.memory.now) ≡ false) × (pastEnd (length a.memory.now) a.first a.count ≡ false)
+    (wrong_length (length a.memory.now) ≡ false) × (past_end (length a.memory.now) a.first a.count ≡ false)
 passed c = (sym c.before.before.before.wrong-length.ensures ∙ c.before.before.if1.false, sym c.before.past-end.ensures ∙ c.if2.false)
 
 returns : tie.Need-returns
@@ -40,13 +40,13 @@ put-lines-requires : tie.Need-put-lines-requires
 put-lines-requires c κs =
     let a = c.before.before.before.before.before.before.before.before.args in
     let p = passed c.before.before in
-    (ltb-false (length a.memory.now) (a.first + a.count) p.1, right-length (length a.memory.now) p.0, omega arith)
+    (ltb-false (length a.memory.now) (a.first + a.count) p.1, right_length (length a.memory.now) p.0, omega arith)
 
 returns-4 : tie.Need-returns-4
 returns-4 c =
     let a = c.before.before.before.before.before.before.before.before.before.before.before.args in
     let p = passed c.before.before.before.before.before in
-    ap (dumpGave (Written (10 * a.count))) c.before.before.put-lines.ensures
+    ap (dump_gave (Written (10 * a.count))) c.before.before.put-lines.ensures
     ∙ sym (taken a.memory.now a.first a.count a.text.now p.0 p.1 (le-ltb (length a.text.now) (10 * a.count) (omega arith)))
 
 pub listing-spec : {M : Type 1} → statement M

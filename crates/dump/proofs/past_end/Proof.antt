@@ -5,14 +5,14 @@ use Prim.Native.Nat.{ℕ, ◌+◌, ◌-◌, ◌≤◌}
 use native.Mathlib.Omega.{arith}
 use borrow.Author.Tests.{ltb-true, ltb-false, lt-ltb, le-ltb}
 use lib.Dec.{ltb}
-use Rattle.dump.specs.Dump.{pastEnd}
+use Rattle.dump.specs.Dump.{past_end}
 use Rattle.dump.proofs.past_end.Statement.{statement}
 use Rattle.dump.proofs.past_end.Tie as tie
 
 -- what is left after the first address is too little
-too-little : (L first count : ℕ) → first ≤ L → ltb (L - first) count ≡ pastEnd L first count
+too-little : (L first count : ℕ) → first ≤ L → ltb (L - first) count ≡ past_end L first count
 too-little L first count h = by (ltb (L - first) count) refl where
-  by : (b : Bool) → ltb (L - first) count ≡ b → b ≡ pastEnd L first count
+  by : (b : Bool) → ltb (L - first) count ≡ b → b ≡ past_end L first count
   by true e = sym (lt-ltb L (first + count) (omega (arith, ltb-true (L - first) count e)))
   by false e = sym (le-ltb L (first + count) (omega (arith, ltb-false (L - first) count e)))
 

@@ -2,7 +2,7 @@
 use mathlib.Core.Path.{◌∙◌}
 use lib.ListN.{length-set}
 use borrow.Author.Rules.{rules}
-use Rattle.dump.proofs.Writes.{line-written}
+use Rattle.dump.proofs.Writes.{line_written}
 use Rattle.dump.proofs.put_line.Statement.{statement}
 use Rattle.dump.proofs.put_line.Tie as tie
 
@@ -23,7 +23,7 @@ returns : tie.Need-returns
 returns c =
     let a = c.before.before.before.before.before.before.before.before.before.args in
     rw (c.before.before.put-word2.ensures, c.before.before.before.before.before.before.put_word.ensures)
-    (line-written a.text.now a.at a.address a.word)
+    (line_written a.text.now a.at a.address a.word)
 
 pub put-line-spec : {M : Type 1} → statement M
 put-line-spec =

@@ -6,15 +6,15 @@ use native.Mathlib.Omega.{arith}
 use lib.ListN.{length}
 use lib.Seq.{sets}
 use borrow.Author.Rules.{rules}
-use Rattle.dump.specs.Dump.{listingText}
-use Rattle.dump.proofs.Writes.{line-more, none_left, all_lines}
+use Rattle.dump.specs.Dump.{listing_text}
+use Rattle.dump.proofs.Writes.{line_more, none_left, all_lines}
 use Rattle.dump.proofs.put_lines.Statement.{statement}
 use Rattle.dump.proofs.put_lines.Tie as tie
 
 abbrev invariant-loop : tie.invariant-loop
 invariant-loop memory first count text₀ i₀ text i =
     (i ≤ count) × (length text ≡ length text₀)
-    × (sets text₀ 0 (listingText memory first count) ≡ sets text (10 * i) (listingText memory (first + i) (count - i)))
+    × (sets text₀ 0 (listing_text memory first count) ≡ sets text (10 * i) (listing_text memory (first + i) (count - i)))
 
 abbrev decreases-loop : tie.decreases-loop
 decreases-loop memory first count text₀ i₀ text i = count - i
@@ -30,7 +30,7 @@ loop-holds c =
     let a = c.before.before.args in (
       search rules,
       refl,
-      λ j. sets a.text.now 0 (listingText a.memory.now (no_more a.first j) (no_less a.count j)),
+      λ j. sets a.text.now 0 (listing_text a.memory.now (no_more a.first j) (no_less a.count j)),
     )
 
 loop-again : tie.Need-loop-preserved invariant-loop decreases-loop
@@ -40,8 +40,8 @@ loop-again c =
     let put = c.before.before.put-line in (
       search rules,
       put.auto.0 ∙ l.invariant.1,
-      l.invariant.2 ∙ line-more a.memory.now l.text a.first a.count l.i (search rules)
-          ∙ ap (λ (t : List ℕ). sets t (10 * (l.i + 1)) (listingText a.memory.now (a.first + (l.i + 1)) (a.count - (l.i + 1)))) (sym put.ensures),
+      l.invariant.2 ∙ line_more a.memory.now l.text a.first a.count l.i (search rules)
+          ∙ ap (λ (t : List ℕ). sets t (10 * (l.i + 1)) (listing_text a.memory.now (a.first + (l.i + 1)) (a.count - (l.i + 1)))) (sym put.ensures),
     )
 
 returns : tie.Need-returns invariant-loop decreases-loop

@@ -12,7 +12,7 @@ returns-2 : tie.Need-returns-2
 returns-2 c = rw c.before.before.kind.given.1 c.binary.ensures
 
 returns-3 : tie.Need-returns-3
-returns-3 c = rw c.before.before.before.kind2.given.1 (rw c.before.field-k.ensures at c.constant.ensures)
+returns-3 c = rw c.before.before.before.kind2.given.1 (rw c.before.field_k_lem.ensures at c.constant.ensures)
 
 returns-4 : tie.Need-returns-4
 returns-4 c = rw c.before.before.enum-told2.given.1 (c.silent2.ensures ∙ ap₂ silent c.before.add2.ensures refl)

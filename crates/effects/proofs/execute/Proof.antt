@@ -10,7 +10,7 @@ returns-2 : tie.Need-returns-2
 returns-2 c = rw c.before.before.before.kind.given.1 (rw c.before.binary.ensures at c.arithmetic.ensures)
 
 returns-3 : tie.Need-returns-3
-returns-3 c = rw c.before.before.before.before.kind2.given.1 (rw (c.before.constant.ensures, c.before.before.field-k.ensures) at c.arithmetic2.ensures)
+returns-3 c = rw c.before.before.before.before.kind2.given.1 (rw (c.before.constant.ensures, c.before.before.field_k_lem.ensures) at c.arithmetic2.ensures)
 
 returns-4 : tie.Need-returns-4
 returns-4 c = rw c.before.before.before.enum-told2.given.1 (rw (c.before.load.ensures, c.before.before.read.ensures, c.before.before.before.before.before.add2.ensures) at c.with-ralu2.ensures)
@@ -40,7 +40,7 @@ returns-12 : tie.Need-returns-12
 returns-12 c = rw c.before.before.enum-told9.given.1 (rw c.before.push.ensures at c.with-ralu9.ensures)
 
 returns-13 : tie.Need-returns-13
-returns-13 c = rw c.before.before.before.before.before.kind4.given.1 (rw (c.before.jump.ensures, c.before.before.is-taken.ensures, c.before.before.before.jump-target.ensures) at c.with-ralu10.ensures)
+returns-13 c = rw c.before.before.before.before.before.kind4.given.1 (rw (c.before.jump.ensures, c.before.before.is_taken.ensures, c.before.before.before.jump-target.ensures) at c.with-ralu10.ensures)
 
 returns-14 : tie.Need-returns-14
 returns-14 c = rw c.before.before.before.before.before.kind5.given.1 (rw (c.before.to-pc2.ensures, c.before.before.push2.ensures, c.before.before.before.call-target.ensures) at c.with-ralu11.ensures)

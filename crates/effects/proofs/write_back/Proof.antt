@@ -40,7 +40,7 @@ returns-12 : tie.Need-returns-12
 returns-12 c = rw c.before.enum-told12.given.1 c.push.ensures
 
 returns-13 : tie.Need-returns-13
-returns-13 c = rw c.before.before.before.kind.given.1 (rw c.before.is-taken.ensures at c.jump.ensures)
+returns-13 c = rw c.before.before.before.kind.given.1 (rw c.before.is_taken.ensures at c.jump.ensures)
 
 returns-14 : tie.Need-returns-14
 returns-14 c = rw c.before.before.enum-told13.given.1 (rw c.before.push2.ensures at c.to-pc2.ensures)

@@ -8,7 +8,7 @@ use lib.Signed.{lt_z}
 use mir.Syntax.{w16}
 use mir.Val.{of_z}
 use mir.ValLaws.{to_z-of_z}
-use Rattle.forms.proofs.Signed.{bits-negative, bits_positive, small-casts, small-bits}
+use Rattle.forms.proofs.Signed.{bits_negative, bits_positive, small_casts, small_bits}
 use Rattle.forms.proofs.unsigned_of.Statement.{statement}
 use Rattle.forms.proofs.unsigned_of.Tie as tie
 
@@ -16,7 +16,7 @@ use Rattle.forms.proofs.unsigned_of.Tie as tie
 bits : (c : tie.Then1) → (32768 ≤ of_z w16 c.before.args.d) × (of_z w16 c.before.args.d < 65536)
 bits c =
     let e : lt_z c.before.args.d (pos 0) ≡ true = rw (to_z-of_z w16 _ c.before.ranges.d) at c.if1.true in
-    bits-negative c.before.args.d e c.before.ranges.d
+    bits_negative c.before.args.d e c.before.ranges.d
 
 -- the bits of `!d`
 below : (c : tie.Then1) → 65535 - of_z w16 c.before.args.d < 32768
@@ -29,19 +29,19 @@ above c =
     bits_positive c.before.args.d e c.before.ranges.d
 
 cast-result : tie.Need-overflow-cast-result
-cast-result c = small-casts _ (below c)
+cast-result c = small_casts _ (below c)
 
 sub-result : tie.Need-overflow-sub-result
-sub-result c = omega (arith, small-bits _ (below c))
+sub-result c = omega (arith, small_bits _ (below c))
 
 cast-result-2 : tie.Need-overflow-cast-result-2
-cast-result-2 c = small-casts _ (above c)
+cast-result-2 c = small_casts _ (above c)
 
 returns : tie.Need-returns
-returns c = rw (small-bits _ (below c)) (omega (arith, bits c))
+returns c = rw (small_bits _ (below c)) (omega (arith, bits c))
 
 returns-2 : tie.Need-returns-2
-returns-2 c = small-bits _ (above c)
+returns-2 c = small_bits _ (above c)
 
 pub unsigned-of-spec : {M : Type 1} → statement M
 unsigned-of-spec = tie.close (tie.spec cast-result sub-result cast-result-2 returns returns-2)

@@ -1,11 +1,11 @@
 -- `layout::done_numbers` meets its contract: four numbers, of which three are among the zeros. Assumes nothing.
 use borrow.Author.Rules.{rules}
-use Rattle.layout.specs.Layout.{answerNumbers}
+use Rattle.layout.specs.Layout.{answer_numbers}
 use Rattle.layout.proofs.done_numbers.Statement.{statement}
 use Rattle.layout.proofs.done_numbers.Tie as tie
 
 returns : tie.Need-returns
-unfolding answerNumbers
+unfolding answer_numbers
 returns c = cc
 
 pub done-numbers-spec : {M : Type 1} → statement M

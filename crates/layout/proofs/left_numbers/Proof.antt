@@ -8,19 +8,19 @@ use borrow.Author.Rules.{rules}
 use borrow.Author.Tests.{eq-eqb, ne_eqb}
 use lib.Dec.{eqb}
 use Rattle.effects.specs.declared.Stop.{Stop}
-use Rattle.r8_core.specs.Cores.{visible, visibleOf, freshCore}
+use Rattle.r8_core.specs.Cores.{visible, visible_of, fresh_core}
 use Rattle.r8_core.specs.declared.Core.{Core}
-use Rattle.layout.specs.Layout.{seenNumbers, leftNumbers}
+use Rattle.layout.specs.Layout.{seen_numbers, left_numbers}
 use Rattle.layout.proofs.left_numbers.Statement.{statement}
 use Rattle.layout.proofs.left_numbers.Tie as tie
 
-abbrev seenWith : Core → Stop → ℕ → ℕ → List ℕ
-seenWith c stop spent clock = seenNumbers 6 (visible c.regs c.pc c.sp c.flags stop) spent clock
+abbrev seen_with : Core → Stop → ℕ → ℕ → List ℕ
+seen_with c stop spent clock = seen_numbers 6 (visible c.regs c.pc c.sp c.flags stop) spent clock
 
 -- what is seen, by whether a cycle is spent
 seen-left : (none : Bool) (core : Core) (spent clock : ℕ) → eqb spent 0 ≡ none
-    → seenWith (cond none core freshCore) core.stop spent clock ≡ leftNumbers (visibleOf core) spent clock
-unfolding leftNumbers
+    → seen_with (cond none core fresh_core) core.stop spent clock ≡ left_numbers (visible_of core) spent clock
+unfolding left_numbers
 seen-left true core spent clock e = rw e
 seen-left false core spent clock e = rw e
 
@@ -31,10 +31,10 @@ returns c =
     let clock = core.clock.0 in
     c.seen-numbers.ensures
     ∙ ⊎_elim
-    (λ w. ap (λ (s : Core). seenWith s core.stop one.result clock) w.1 ∙ seen-left true core one.result clock (eq-eqb _ _ w.0.taken))
-    (λ w. ap (λ (s : Core). seenWith s core.stop one.result clock) (w.2 ∙ w.1.ensures) ∙ seen-left false core one.result clock (ne_eqb _ _ w.0.left))
+    (λ w. ap (λ (s : Core). seen_with s core.stop one.result clock) w.1 ∙ seen-left true core one.result clock (eq-eqb _ _ w.0.taken))
+    (λ w. ap (λ (s : Core). seen_with s core.stop one.result clock) (w.2 ∙ w.1.ensures) ∙ seen-left false core one.result clock (ne_eqb _ _ w.0.left))
     c.before.before.before.if1.branch
-    ∙ ap (λ (n : ℕ). leftNumbers (visibleOf core) n clock) one.ensures
+    ∙ ap (λ (n : ℕ). left_numbers (visible_of core) n clock) one.ensures
 
 pub left-numbers-spec : {M : Type 1} → statement M
 left-numbers-spec =

@@ -4,7 +4,7 @@ use mathlib.Core.List.{List, ◌++◌}
 use Prim.Native.Nat.{ℕ, ◌≤◌, ◌-◌}
 use borrow.Author.Rules.{rules}
 use lib.ListN.{length, take, drop, get_or, set, length-set}
-use Rattle.layout.proofs.Onto.{fitting, too_long, one_more, all-written}
+use Rattle.layout.proofs.Onto.{fitting, too_long, one_more, all_written}
 use Rattle.layout.proofs.put.Statement.{statement}
 use Rattle.layout.proofs.put.Tie as tie
 
@@ -31,7 +31,7 @@ returns-2 c =
     let l = c.before.loop in
     let a = c.before.before.before.args in
     l.invariant.2
-    ∙ all-written a.t2 a.answers.now l.i (search rules)
+    ∙ all_written a.t2 a.answers.now l.i (search rules)
     ∙ sym (fitting a.t2 a.answers.now (search rules))
 
 pub put_spec : {M : Type 1} → statement M

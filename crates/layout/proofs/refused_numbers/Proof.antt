@@ -1,11 +1,11 @@
 -- `layout::refused_numbers` meets its contract: four numbers, of which two are among the zeros. Assumes nothing.
 use borrow.Author.Rules.{rules}
-use Rattle.layout.specs.Layout.{answerNumbers}
+use Rattle.layout.specs.Layout.{answer_numbers}
 use Rattle.layout.proofs.refused_numbers.Statement.{statement}
 use Rattle.layout.proofs.refused_numbers.Tie as tie
 
 returns : tie.Need-returns
-unfolding answerNumbers
+unfolding answer_numbers
 returns c = cc
 
 pub refused-numbers-spec : {M : Type 1} → statement M

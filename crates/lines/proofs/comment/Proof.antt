@@ -3,12 +3,12 @@ use mathlib.Core.Path.{ap, ◌∙◌}
 use Prim.Native.Nat.{ℕ}
 use native.Mathlib.Omega.{arith}
 use borrow.Author.Rules.{rules}
-use Rattle.lines.proofs.Places.{find-le}
+use Rattle.lines.proofs.Places.{find_le}
 use Rattle.lines.proofs.comment.Statement.{statement}
 use Rattle.lines.proofs.comment.Tie as tie
 
 add-part-from : tie.Need-overflow-add-part-from
-add-part-from c = omega (arith, c.place_of.ensures, find-le 59 c.before.first-line.result.now)
+add-part-from c = omega (arith, c.place_of.ensures, find_le 59 c.before.first-line.result.now)
 
 returns : tie.Need-returns
 returns c =

@@ -3,7 +3,7 @@ use mathlib.Core.Path.{sym}
 use mathlib.Core.Logic.{inl, inr, ⊎_elim}
 use borrow.Author.Rules.{rules}
 use borrow.Author.Tests.{leb-true, leb-false}
-use Rattle.lines.proofs.Entries.{a-number, no_number}
+use Rattle.lines.proofs.Entries.{a_number, no_number}
 use Rattle.lines.proofs.number.Statement.{statement}
 use Rattle.lines.proofs.number.Tie as tie
 
@@ -20,7 +20,7 @@ returns-2 : tie.Need-returns-2
 returns-2 c =
     let v = c.before.before.before.before.args in
     sym
-    (a-number v.a v.b v.c v.d c.before.before.before.if1.false (leb-false 16 _ c.before.before.if2.false)
+    (a_number v.a v.b v.c v.d c.before.before.before.if1.false (leb-false 16 _ c.before.before.if2.false)
     (leb-false 16 _ c.before.if3.false) (leb-false 16 _ c.if4.false))
 
 pub number-spec : {M : Type 1} → statement M

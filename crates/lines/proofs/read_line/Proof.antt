@@ -2,15 +2,15 @@
 use mathlib.Core.Path.{ap, ◌∙◌}
 use borrow.Author.Rules.{rules}
 use lib.ListN.{length}
-use Rattle.lines.specs.Lines.{readLine}
-use Rattle.lines.specs.Answers.{lineSays}
+use Rattle.lines.specs.Lines.{read_line}
+use Rattle.lines.specs.Answers.{line_says}
 use Rattle.lines.proofs.read_line.Statement.{statement}
 use Rattle.lines.proofs.read_line.Tie as tie
 
 returns : tie.Need-returns
 returns c =
     let text = c.before.first-line.ensures.0 in
-    (ap lineSays (c.line_of.ensures ∙ ap readLine text), ap length text)
+    (ap line_says (c.line_of.ensures ∙ ap read_line text), ap length text)
 
 pub read-line-spec : {M : Type 1} → statement M
 read-line-spec = tie.close (tie.spec (λ c κs. search rules) (λ c κs. search rules) returns)

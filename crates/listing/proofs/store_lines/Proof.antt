@@ -5,14 +5,14 @@ use native.Mathlib.Omega.{arith}
 use borrow.Author.Rules.{rules}
 use lib.ListN.{length, drop}
 use Rattle.lines.specs.Lines.{lines}
-use Rattle.listing.specs.Listing.{storeLines}
-use Rattle.listing.proofs.Turns.{turn, stored-line, no_store, length-line}
+use Rattle.listing.specs.Listing.{store_lines}
+use Rattle.listing.proofs.Turns.{turn, stored_line, no_store, length_line}
 use Rattle.listing.proofs.store_lines.Statement.{statement}
 use Rattle.listing.proofs.store_lines.Tie as tie
 
 abbrev invariant-loop : tie.invariant-loop
 invariant-loop listing memory₀ at₀ memory at =
-    (storeLines (lines listing) memory₀ ≡ storeLines (lines (drop at listing)) memory)
+    (store_lines (lines listing) memory₀ ≡ store_lines (lines (drop at listing)) memory)
     × (length memory ≡ length memory₀)
     × (at ≤ length listing + 1)
 
@@ -27,7 +27,7 @@ loop-again c =
     let a = l.before.before.before in
     let t = turn a.args.listing.now l.loop.at r.read-line.result.line r.before.before.loop-test.true r.read-line.ensures in
     let m = c.before.before.before.Store-Line.ensures in
-    (rw m (l.loop.invariant.0 ∙ stored-line t l.loop.memory), rw (m, length-line) l.loop.invariant.1, t.within)
+    (rw m (l.loop.invariant.0 ∙ stored_line t l.loop.memory), rw (m, length_line) l.loop.invariant.1, t.within)
 
 same_length : tie.Need-same-length invariant-loop decreases-loop
 same_length c = c.before.loop.invariant.1

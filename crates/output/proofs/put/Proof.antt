@@ -6,7 +6,7 @@ use native.Mathlib.Omega.{arith}
 use borrow.Author.Rules.{rules}
 use lib.ListN.{length, take}
 use lib.Seq.{take_all}
-use Rattle.output.specs.Page.{pageAt, putOn}
+use Rattle.output.specs.Page.{page_at, put_on}
 use Rattle.output.proofs.Stores.{put_one}
 use Rattle.output.proofs.put.Statement.{statement}
 use Rattle.output.proofs.put.Tie as tie
@@ -14,7 +14,7 @@ use Rattle.output.proofs.put.Tie as tie
 record Reached (page₀ : List ℕ) (from : ℕ) (bytes page : List ℕ) (at i i-end : ℕ) : Type 0 where
   all : i-end ≡ length bytes
   size : length page ≡ length page₀
-  put : pageAt page at ≡ putOn (pageAt page₀ from) (take i bytes)
+  put : page_at page at ≡ put_on (page_at page₀ from) (take i bytes)
 
 abbrev invariant-loop : tie.invariant-loop
 invariant-loop page₀ from bytes at₀ i₀ i-end page at i = Reached page₀ from bytes page at i i-end
@@ -23,7 +23,7 @@ abbrev decreases-loop : tie.decreases-loop
 decreases-loop page₀ from bytes at₀ i₀ i-end page at i = i-end - i
 
 loop-holds : tie.Need-loop-init invariant-loop decreases-loop
-unfolding putOn
+unfolding put_on
 loop-holds c = record { all = refl; size = refl; put = refl }
 
 loop-again : tie.Need-loop-preserved invariant-loop decreases-loop

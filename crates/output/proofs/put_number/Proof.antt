@@ -5,7 +5,7 @@ use native.Mathlib.Omega.{arith}
 use borrow.Author.Rules.{rules}
 use lib.ListN.{length, take, drop}
 use Rattle.text.specs.declared.Figure.{Figure}
-use Rattle.text.proofs.Digits.{end-length, end-text}
+use Rattle.text.proofs.Digits.{end_length, end_text}
 use Rattle.output.proofs.Stores.{put_both}
 use Rattle.output.proofs.put_number.Statement.{statement}
 use Rattle.output.proofs.put_number.Tie as tie
@@ -22,14 +22,14 @@ part-put-end c =
     omega (
       arith,
       ap (λ (f : Figure). length f.digits) c.before.before.before.decimal.ensures,
-      end-length start.args.n (omega (arith, start.ranges.n)),
+      end_length start.args.n (omega (arith, start.ranges.n)),
     )
 
 returns : tie.Need-returns
 returns c =
     let start = c.before.before.before.before.before.before.before.before.before.before.before.before.before.before in
     let digits = ap (λ (f : Figure). take (20 - f.start) (drop f.start f.digits)) c.before.before.before.before.before.before.before.decimal.ensures
-    ∙ end-text start.args.n (omega (arith, start.ranges.n)) in
+    ∙ end_text start.args.n (omega (arith, start.ranges.n)) in
     rw (← digits)
     (put_both _ _ _ c.before.before.before.before.before.before.before.before.before.before.put.ensures c.before.before.put2.ensures)
 

@@ -6,17 +6,17 @@ use native.Mathlib.Numerals.{add-one}
 use native.Mathlib.Omega.{arith}
 use borrow.Author.Rules.{rules}
 use lib.ListN.{length}
-use Rattle.output.specs.Page.{pageAt, putOn}
+use Rattle.output.specs.Page.{page_at, put_on}
 use Rattle.output.proofs.Stores.{put_both}
-use Rattle.printed.specs.Printed.{linesText}
-use Rattle.printed.proofs.Lines.{line-more}
+use Rattle.printed.specs.Printed.{lines_text}
+use Rattle.printed.proofs.Lines.{line_more}
 use Rattle.printed.proofs.put_lines.Statement.{statement}
 use Rattle.printed.proofs.put_lines.Tie as tie
 
 record Reached (page₀ rows page : List ℕ) (count at i : ℕ) : Type 0 where
   few : i ≤ count
   size : length page ≡ length page₀
-  put : pageAt page at ≡ putOn (pageAt page₀ 0) (linesText i rows)
+  put : page_at page at ≡ put_on (page_at page₀ 0) (lines_text i rows)
 
 abbrev invariant-loop : tie.invariant-loop
 invariant-loop page₀ rows count at₀ i₀ page at i = Reached page₀ rows page count at i
@@ -25,7 +25,7 @@ abbrev decreases-loop : tie.decreases-loop
 decreases-loop page₀ rows count at₀ i₀ page at i = count - i
 
 loop-holds : tie.Need-loop-init invariant-loop decreases-loop
-unfolding putOn linesText
+unfolding put_on lines_text
 loop-holds c = record { few = search rules; size = refl; put = refl }
 
 slice-aggregate-put : tie.Need-slice-aggregate-put invariant-loop decreases-loop
@@ -39,7 +39,7 @@ loop-again c =
       few = search rules;
       size = search rules;
       put =
-          rw (add-one l.i, line-more l.i rows, ← c.before.before.before.before.row-text.ensures)
+          rw (add-one l.i, line_more l.i rows, ← c.before.before.before.before.row-text.ensures)
           (put_both _ _ _ l.invariant.put c.before.before.put.ensures);
     }
 

@@ -8,7 +8,7 @@ use Rattle.printed.proofs.row_text.Tie as tie
 returns : tie.Need-returns
 returns c =
     let a = c.before.before.before.before.before.before.args in
-    c.line-text.ensures ∙ row_at a.rows.now a.at c.before.flags_of.ensures
+    c.line_text_lem.ensures ∙ row_at a.rows.now a.at c.before.flags_of.ensures
 
 pub row-text-spec : {M : Type 1} → statement M
 row-text-spec =

@@ -4,7 +4,7 @@ use Prim.Native.Nat.{◌*◌, ◌≤◌}
 use native.Mathlib.Omega.{arith}
 use lib.ListN.{length}
 use lib.Seq.{length-take-le}
-use Rattle.script.specs.Script.{scriptOf}
+use Rattle.script.specs.Script.{script_of}
 use Rattle.script.proofs.Writes.{CountFits, count_fits}
 use Rattle.script.specs.declared.ScriptAnswer.{ScriptAnswer}
 use borrow.Author.Rules.{rules}
@@ -18,7 +18,7 @@ fits c =
     let a = c.before.before.before.before.before.before.before.before.before.before.args in
     let read = c.before.before.before.before.before.read in
     subst (λ (x : ScriptAnswer). CountFits x (length a.calls.now)) c.before.read2.given.1
-    (count_fits (scriptOf a.input.now) a.calls.now read.new.1.0 read.result read.ensures)
+    (count_fits (script_of a.input.now) a.calls.now read.new.1.0 read.result read.ensures)
 
 mul-numbers : tie.Need-overflow-mul-numbers
 mul-numbers c = omega (arith, fits c)

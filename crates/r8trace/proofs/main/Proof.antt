@@ -2,15 +2,15 @@
 use mathlib.Core.Path.{sym}
 use lib.Seq.{length-take-le}
 use borrow.Author.Rules.{rules}
-use Rattle.printed.proofs.Lines.{count-within}
+use Rattle.printed.proofs.Lines.{count_within}
 use Rattle.r8trace.proofs.main.Statement.{statement}
 use Rattle.r8trace.proofs.main.Tie as tie
 
 array-share-prefix-page : tie.Need-array-share-prefix-page
-array-share-prefix-page c = count-within _ _ c.before.trace-text.ensures
+array-share-prefix-page c = count_within _ _ c.before.trace-text.ensures
 
 slice-aggregate-write-all : tie.Need-slice-aggregate-write-all
-slice-aggregate-write-all c = sym (length-take-le _ _ (count-within _ _ c.before.before.trace-text.ensures))
+slice-aggregate-write-all c = sym (length-take-le _ _ (count_within _ _ c.before.before.trace-text.ensures))
 
 pub main_spec : {M : Type 1} → statement M
 main_spec =

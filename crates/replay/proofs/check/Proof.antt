@@ -4,9 +4,9 @@ use Prim.Native.Nat.{◌-◌}
 use native.Mathlib.Omega.{arith}
 use borrow.Author.Rules.{rules}
 use lib.ListN.{length}
-use Rattle.replay.specs.Replay.{readCalls}
-use Rattle.replay.specs.declared.ReadCall.TheVariants as readAs
-use Rattle.replay.proofs.Readings.{Passed, finds, passes, ends-with-room, ends-without, verdict-starts, read_whole}
+use Rattle.replay.specs.Replay.{read_calls}
+use Rattle.replay.specs.declared.ReadCall.TheVariants as read_as
+use Rattle.replay.proofs.Readings.{Passed, finds, passes, ends_with_room, ends_without, verdict_starts, read_whole}
 use Rattle.replay.proofs.check.Statement.{statement}
 use Rattle.replay.proofs.check.Tie as tie
 
@@ -19,17 +19,17 @@ decreases-loop calls text room at₀ i₀ at i = length calls - at
 loop-holds : tie.Need-loop-init invariant-loop decreases-loop
 loop-holds c =
     let a = c.before.before.args in
-    record { within = omega arith; few = omega arith; same = verdict-starts (readCalls a.text.now a.calls.now) a.room }
+    record { within = omega arith; few = omega arith; same = verdict_starts (read_calls a.text.now a.calls.now) a.room }
 
 returns : tie.Need-returns invariant-loop decreases-loop
 returns c =
     let r = c.before.before in
-    sym (finds r.before.before.before.loop.invariant readAs.NoCall r.before.before.loop-test.true (sym c.enum-told2.given.1 ∙ r.front-call.ensures.0))
+    sym (finds r.before.before.before.loop.invariant read_as.NoCall r.before.before.loop-test.true (sym c.enum-told2.given.1 ∙ r.front-call.ensures.0))
 
 returns-2 : tie.Need-returns-2 invariant-loop decreases-loop
 returns-2 c =
     let r = c.before.before in
-    sym (finds r.before.before.before.loop.invariant readAs.NoStretch r.before.before.loop-test.true (sym c.enum-told3.given.1 ∙ r.front-call.ensures.0))
+    sym (finds r.before.before.before.loop.invariant read_as.NoStretch r.before.before.loop-test.true (sym c.enum-told3.given.1 ∙ r.front-call.ensures.0))
 
 -- one call more; that the next place is in the list also says that the sums fit
 loop-again : tie.Need-loop-preserved invariant-loop decreases-loop
@@ -43,10 +43,10 @@ loop-again c =
     (sym call.1 ∙ r.front-call.ensures.0)
 
 returns-3 : tie.Need-returns-3 invariant-loop decreases-loop
-returns-3 c = sym (ends-without c.before.before.loop.invariant c.before.loop-test.false (omega (arith, c.if1.true)))
+returns-3 c = sym (ends_without c.before.before.loop.invariant c.before.loop-test.false (omega (arith, c.if1.true)))
 
 returns-4 : tie.Need-returns-4 invariant-loop decreases-loop
-returns-4 c = sym (ends-with-room c.before.before.loop.invariant c.before.loop-test.false (omega (arith, c.if1.false)))
+returns-4 c = sym (ends_with_room c.before.before.loop.invariant c.before.loop-test.false (omega (arith, c.if1.false)))
 
 pub check-spec : {M : Type 1} → statement M
 check-spec =

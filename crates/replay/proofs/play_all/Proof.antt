@@ -5,12 +5,12 @@ use Prim.Native.Nat.{ℕ, ◌-◌}
 use native.Mathlib.Omega.{arith}
 use borrow.Author.Rules.{rules}
 use lib.ListN.{length, take, drop}
-use Rattle.layout.specs.Layout.{ontoIfRoom, gave}
+use Rattle.layout.specs.Layout.{onto_if_room, gave}
 use Rattle.replay.specs.Replay.{call_of}
-use Rattle.replay.specs.ReplayParts.{ReadFits, afterPlay}
-use Rattle.replay.specs.declared.ReadCall.TheVariants as readAs
+use Rattle.replay.specs.ReplayParts.{ReadFits, after_play}
+use Rattle.replay.specs.declared.ReadCall.TheVariants as read_as
 use Rattle.replay.proofs.Readings.{read_whole}
-use Rattle.replay.proofs.Plays.{Reached, starts, reads-next, goes_on, ends, no-call-listed, no-stretch-listed}
+use Rattle.replay.proofs.Plays.{Reached, starts, reads_next, goes_on, ends, no_call_listed, no_stretch_listed}
 use Rattle.replay.proofs.play_all.Statement.{statement}
 use Rattle.replay.proofs.play_all.Tie as tie
 
@@ -39,12 +39,12 @@ put-at-requires c κs =
 returns : tie.Need-returns invariant-loop decreases-loop
 returns c =
     let r = c.before.before in
-    absurd (no-call-listed _ _ (reads-next r.before.before.before.loop.invariant readAs.NoCall r.before.before.loop-test.true (sym c.enum_told.given.1 ∙ r.front-call.ensures.0)))
+    absurd (no_call_listed _ _ (reads_next r.before.before.before.loop.invariant read_as.NoCall r.before.before.loop-test.true (sym c.enum_told.given.1 ∙ r.front-call.ensures.0)))
 
 returns-2 : tie.Need-returns-2 invariant-loop decreases-loop
 returns-2 c =
     let r = c.before.before in
-    absurd (no-stretch-listed _ _ (reads-next r.before.before.before.loop.invariant readAs.NoStretch r.before.before.loop-test.true (sym c.enum-told2.given.1 ∙ r.front-call.ensures.0)))
+    absurd (no_stretch_listed _ _ (reads_next r.before.before.before.loop.invariant read_as.NoStretch r.before.before.loop-test.true (sym c.enum-told2.given.1 ∙ r.front-call.ensures.0)))
 
 -- one call more; that the next places are in the slices also says that the sums fit
 loop-again : tie.Need-loop-preserved invariant-loop decreases-loop
@@ -58,7 +58,7 @@ loop-again c =
     let read = front.front-call in
     goes_on l.invariant (call_of a.text.now call.0.0) (gave played.play.result played.play.new.1.1.1.0) put.put-at.new.0
     (read_whole a.calls.now l.at read.result call.0.0 l.invariant.within call.1 read.ensures.1.1)
-    (reads-next l.invariant (readAs.Read call.0.0) front.before.before.loop-test.true (sym call.1 ∙ read.ensures.0))
+    (reads_next l.invariant (read_as.Read call.0.0) front.before.before.loop-test.true (sym call.1 ∙ read.ensures.0))
     played.play.ensures put.before.before.before.before.memory.given put.put-at.ensures c.before.before.answers.given
 
 add_at : tie.Need-overflow-add-at invariant-loop decreases-loop
@@ -78,8 +78,8 @@ returns-3 c =
     let l = c.before.before.before.before.before in
     let m = l.before.loop in
     ends m.invariant l.loop-test.false
-    ∙ ap (afterPlay m.memory)
-    (ap (λ (numbers : List ℕ). take m.to m.answers ++ ontoIfRoom numbers (drop m.to m.answers)) (sym c.before.before.before.left-numbers.ensures)
+    ∙ ap (after_play m.memory)
+    (ap (λ (numbers : List ℕ). take m.to m.answers ++ onto_if_room numbers (drop m.to m.answers)) (sym c.before.before.before.left-numbers.ensures)
     ∙ sym c.before.before.put-at2.ensures)
 
 pub play-all-spec : {M : Type 1} → statement M

@@ -44,7 +44,7 @@ use denote.Triple.Walked.{says, Stays, stay_ref, stay_none, gave_slice, walk_of,
 use denote.Exit.{yes}
 use denote.Signature.{plain}
 use Rattle.r8_core.specs.Calls as calls
-use Rattle.r8_core.specs.Answers.{runGave}
+use Rattle.r8_core.specs.Answers.{run_gave}
 use Rattle.r8_core.specs.declared.Core.{Core}
 use Rattle.r8_core.specs.declared.RunReply.{RunReply}
 use Rattle.r8_core.specs.contracts.Core as T
@@ -95,7 +95,7 @@ module _ {M : Type 1} {𝓤 : Ura M} (𝓛 : Logic 𝓤) (at_mem : Memory → SP
 
     -- what the value form ensures of its reply and the last memory, and what is to be shown at exit
     abbrev Same : RunReply → List ℕ → Type 0
-    Same r zs = runGave r zs ≡ calls.run n c.now x.now
+    Same r zs = run_gave r zs ≡ calls.run n c.now x.now
 
     abbrev Post : Val → SProp 𝓤
     Post = (walk_of 𝓛 lent.ended stayed (lent.clauses 𝓛 at_mem run)).post to-lent

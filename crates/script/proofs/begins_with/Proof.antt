@@ -4,7 +4,7 @@ use Prim.Native.Nat.{◌≤◌, ◌-◌}
 use borrow.Author.Rules.{rules}
 use lib.ListN.{length, drop}
 use Rattle.script.specs.Commands.{begins}
-use Rattle.script.proofs.Words.{begins-further, begins-other, begins-short, begins-all}
+use Rattle.script.proofs.Words.{begins_further, begins_other, begins_short, begins_all}
 use Rattle.script.proofs.begins_with.Statement.{statement}
 use Rattle.script.proofs.begins_with.Tie as tie
 
@@ -18,25 +18,25 @@ returns : tie.Need-returns invariant-loop decreases-loop
 returns c =
     let l = c.before.before in
     let a = l.before.args in
-    sym (l.loop.invariant.1 ∙ begins-short a.word.now a.line.now l.loop.i (search rules) c.if1.true)
+    sym (l.loop.invariant.1 ∙ begins_short a.word.now a.line.now l.loop.i (search rules) c.if1.true)
 
 returns-2 : tie.Need-returns-2 invariant-loop decreases-loop
 returns-2 c =
     let l = c.before.before.before.before.before in
     let a = l.before.args in
-    sym (l.loop.invariant.1 ∙ begins-other a.word.now a.line.now l.loop.i (search rules) (search rules) c.if2.true)
+    sym (l.loop.invariant.1 ∙ begins_other a.word.now a.line.now l.loop.i (search rules) (search rules) c.if2.true)
 
 loop-again : tie.Need-loop-preserved invariant-loop decreases-loop
 loop-again c =
     let l = c.before.before.before.before.before in
     let a = l.before.args in
-    (search rules, l.loop.invariant.1 ∙ begins-further a.word.now a.line.now l.loop.i (search rules) (search rules) c.if2.false)
+    (search rules, l.loop.invariant.1 ∙ begins_further a.word.now a.line.now l.loop.i (search rules) (search rules) c.if2.false)
 
 returns-3 : tie.Need-returns-3 invariant-loop decreases-loop
 returns-3 c =
     let l = c.before in
     let a = l.before.args in
-    sym (l.loop.invariant.1 ∙ begins-all a.word.now a.line.now l.loop.i (search rules))
+    sym (l.loop.invariant.1 ∙ begins_all a.word.now a.line.now l.loop.i (search rules))
 
 pub begins-with-spec : {M : Type 1} → statement M
 begins-with-spec =

@@ -5,7 +5,7 @@ use native.Mathlib.Omega.{arith}
 use Rattle.lines.specs.Lines.{ends}
 use Rattle.lines.proofs.Places.{to_end}
 use Rattle.script.specs.Commands.{begins, says}
-use Rattle.script.proofs.Words.{begins-length}
+use Rattle.script.proofs.Words.{begins_length}
 use lib.ListN.{length}
 use borrow.Author.Rules.{rules}
 use Rattle.script.proofs.is_word.Statement.{statement}
@@ -14,12 +14,12 @@ use Rattle.script.proofs.is_word.Tie as tie
 sub-line-ends : tie.Need-overflow-sub-line-ends
 sub-line-ends c =
     let a = c.before.before.before.before.args in
-    omega (arith, begins-length a.word.now a.line.now (sym c.before.begins-with.ensures ∙ c.if1.true))
+    omega (arith, begins_length a.word.now a.line.now (sym c.before.begins-with.ensures ∙ c.if1.true))
 
 part-line-ends-start : tie.Need-slice-bounds-line-ends-start
 part-line-ends-start c =
     let a = c.before.before.before.before.args in
-    omega (arith, begins-length a.word.now a.line.now (sym c.before.begins-with.ensures ∙ c.if1.true))
+    omega (arith, begins_length a.word.now a.line.now (sym c.before.begins-with.ensures ∙ c.if1.true))
 
 returns : tie.Need-returns
 unfolding says

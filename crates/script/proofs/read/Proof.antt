@@ -1,9 +1,9 @@
 -- `script::read` meets its contract: by its verdict. Assumes nothing.
 use mathlib.Core.Path.{sym, ap, ◌∙◌}
-use Rattle.script.specs.Script.{scriptOf, gave}
+use Rattle.script.specs.Script.{script_of, gave}
 use Rattle.script.specs.declared.ScriptAnswer.{ScriptAnswer}
 use Rattle.script.specs.declared.ScriptAnswer.TheVariants as answer
-use Rattle.script.proofs.Writes.{no_room, fits-when, as_written, as-unreadable, never-no-room}
+use Rattle.script.proofs.Writes.{no_room, fits_when, as_written, as_unreadable, never_no_room}
 use borrow.Author.Rules.{rules}
 use Rattle.script.proofs.read.Statement.{statement}
 use Rattle.script.proofs.read.Tie as tie
@@ -11,7 +11,7 @@ use Rattle.script.proofs.read.Tie as tie
 returns : tie.Need-returns
 returns c =
     let a = c.before.before.before.before.before.before.before.args in
-    let script = scriptOf a.text.now in
+    let script = script_of a.text.now in
     let old = a.calls.now in
     let told = c.before.before.answer.given in
     let found = sym c.before.before.before.before.check.ensures ∙ told.1 in
@@ -20,16 +20,16 @@ returns c =
 write-calls-requires : tie.Need-write-calls-requires
 write-calls-requires c κs =
     let a = c.before.before.before.before.before.before.before.before.args in
-    let script = scriptOf a.text.now in
+    let script = script_of a.text.now in
     let old = a.calls.now in
     let told = c.before.before.before.answer.given in
     let found = sym c.before.before.before.before.before.check.ensures ∙ told.1 in
-    fits-when script old told.0.0 found c.before.if1.false
+    fits_when script old told.0.0 found c.before.if1.false
 
 returns-2 : tie.Need-returns-2
 returns-2 c =
     let a = c.before.before.before.before.before.before.before.before.before.before.before.args in
-    let script = scriptOf a.text.now in
+    let script = script_of a.text.now in
     let old = a.calls.now in
     let told = c.before.before.before.before.before.before.answer.given in
     let found = sym c.before.before.before.before.before.before.before.before.check.ensures ∙ told.1 in
@@ -40,14 +40,14 @@ returns-2 c =
 returns-3 : tie.Need-returns-3
 returns-3 c =
     let a = c.before.before.before.before.before.args in
-    let script = scriptOf a.text.now in
+    let script = script_of a.text.now in
     let old = a.calls.now in
     let told = c.enum_told.given in
     let found = sym c.before.before.check.ensures ∙ told.1 in
-    ap (λ (x : ScriptAnswer). gave x old) told.1 ∙ as-unreadable script old told.0.0 found
+    ap (λ (x : ScriptAnswer). gave x old) told.1 ∙ as_unreadable script old told.0.0 found
 
 returns-4 : tie.Need-returns-4
-returns-4 c = absurd (never-no-room (scriptOf c.before.before.before.before.before.args.text.now) (sym c.before.before.check.ensures ∙ c.enum-told2.given.1))
+returns-4 c = absurd (never_no_room (script_of c.before.before.before.before.before.args.text.now) (sym c.before.before.check.ensures ∙ c.enum-told2.given.1))
 
 pub read_spec : {M : Type 1} → statement M
 read_spec =

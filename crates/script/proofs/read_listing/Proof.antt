@@ -4,20 +4,20 @@ use Prim.Native.Nat.{◌≤◌}
 use native.Mathlib.Omega.{arith}
 use lib.ListN.{length, drop_of_length-le}
 use Rattle.lines.proofs.Places.{to_end}
-use Rattle.script.specs.Commands.{isDigit, decimalOf, listingAt}
+use Rattle.script.specs.Commands.{is_digit, decimal_of, listing_at}
 use borrow.Author.Rules.{rules}
 use Rattle.script.proofs.read_listing.Statement.{statement}
 use Rattle.script.proofs.read_listing.Tie as tie
 
 returns : tie.Need-returns
-unfolding listingAt decimalOf isDigit
+unfolding listing_at decimal_of is_digit
 returns c =
     let s = c.before.before.args.s.now in
     let short : length s ≤ 5 = omega (arith, c.if1.true) in
     rw (drop_of_length-le s short)
 
 returns-2 : tie.Need-returns-2
-unfolding listingAt
+unfolding listing_at
 returns-2 c =
     let p = c.before.before.before.before in
     c.listing-of.ensures

@@ -4,7 +4,7 @@ use native.Mathlib.Omega.{arith}
 use lib.ListN.{length}
 use Rattle.script.specs.ScriptParts.{Within}
 use Rattle.script.proofs.Turns.{reads_end}
-use Rattle.script.proofs.Writes.{Reached, starts, goes_on, ended}
+use Rattle.script.proofs.Writes.{Reached, starts, goes_on_lem, ended}
 use Rattle.script.proofs.write_calls.Statement.{statement}
 use Rattle.script.proofs.write_calls.Tie as tie
 
@@ -25,7 +25,7 @@ put-call-requires : tie.Need-put-call-requires invariant-loop decreases-loop
 put-call-requires c κs =
     let t = c.before.read-line in
     let l = c.before.before.before.before.loop in
-    (goes_on l.invariant.1 t.result.meaning l.start.number t.ensures.0).0
+    (goes_on_lem l.invariant.1 t.result.meaning l.start.number t.ensures.0).0
 
 loop-less : tie.Need-loop-smaller invariant-loop decreases-loop
 loop-less c = omega (arith, c.before.before.before.before.before.read-line.ensures.1)
@@ -35,7 +35,7 @@ loop-again c =
     let put = c.before.before.before.put-call in
     let t = c.before.before.before.before.before.read-line in
     let l = c.before.before.before.before.before.before.before.before.loop in
-    (t.ensures.1.1, rw (put.ensures.0, put.ensures.1) (goes_on l.invariant.1 t.result.meaning l.start.number t.ensures.0).1)
+    (t.ensures.1.1, rw (put.ensures.0, put.ensures.1) (goes_on_lem l.invariant.1 t.result.meaning l.start.number t.ensures.0).1)
 
 same_length : tie.Need-same-length invariant-loop decreases-loop
 same_length c = c.before.before.loop.invariant.1.same

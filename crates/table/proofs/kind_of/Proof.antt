@@ -1,6 +1,6 @@
 -- `table::kind_of` meets its contract: at each place the kind whose entry it is. Assumes nothing.
 use borrow.Author.Rules.{rules}
-use Rattle.table.proofs.Entries.{found_at, found-past}
+use Rattle.table.proofs.Entries.{found_at, found_past}
 use Rattle.table.proofs.kind_of.Statement.{statement}
 use Rattle.table.proofs.kind_of.Tie as tie
 
@@ -49,4 +49,4 @@ kind-of-spec =
     (λ c. found_at _ _ _ c.before.place_of.ensures c.match.keys38)
     (λ c. found_at _ _ _ c.before.place_of.ensures c.match.keys39)
     (λ c. found_at _ _ _ c.before.place_of.ensures c.match.keys40)
-    (λ c. found-past _ _ c.before.place_of.ensures c.match.rest))
+    (λ c. found_past _ _ c.before.place_of.ensures c.match.rest))

@@ -3,13 +3,13 @@ use mathlib.Core.Path.{refl, sym}
 use mathlib.Core.List.{[], append-nil}
 use native.Mathlib.Omega.{arith}
 use borrow.Author.Rules.{rules}
-use Rattle.text.specs.Decimal.{decimalText}
+use Rattle.text.specs.Decimal.{decimal_text}
 use Rattle.text.proofs.Digits.{Put, put_first, put_other}
 use Rattle.text.proofs.decimal.Statement.{statement}
 use Rattle.text.proofs.decimal.Tie as tie
 
 abbrev invariant-loop : tie.invariant-loop
-invariant-loop n digits₀ start₀ rest₀ digits start rest = Put (decimalText n) digits start rest
+invariant-loop n digits₀ start₀ rest₀ digits start rest = Put (decimal_text n) digits start rest
 
 abbrev decreases-loop : tie.decreases-loop
 decreases-loop n digits₀ start₀ rest₀ digits start rest = start

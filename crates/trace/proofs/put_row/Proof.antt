@@ -2,7 +2,7 @@
 use borrow.Author.Rules.{rules}
 use native.Mathlib.Omega.{arith}
 use lib.ListN.{length-set}
-use Rattle.trace.proofs.Rows.{four-stored}
+use Rattle.trace.proofs.Rows.{four_stored}
 use Rattle.trace.proofs.put_row.Statement.{statement}
 use Rattle.trace.proofs.put_row.Tie as tie
 
@@ -18,7 +18,7 @@ slice-write-rows-4 c = simp length-set (omega arith)
 returns : tie.Need-returns
 returns c =
     let a = c.before.args in
-    four-stored a.rows.now a.at a.address a.word a.cycles.0 a.flags c.before.requires
+    four_stored a.rows.now a.at a.address a.word a.cycles.0 a.flags c.before.requires
 
 pub put-row-spec : {M : Type 1} → statement M
 put-row-spec =

@@ -6,10 +6,10 @@ use borrow.Author.Rules.{rules}
 use native.Mathlib.Nat.{zero-add}
 use native.Mathlib.Omega.{arith}
 use lib.ListN.{length, drop}
-use Rattle.r8_core.specs.Answers.{runGave}
+use Rattle.r8_core.specs.Answers.{run_gave}
 use Rattle.r8_core.specs.declared.Core.{Core}
 use Rattle.trace.specs.Trace.{rows_of}
-use Rattle.trace.proofs.Rows.{under, no-row-yet, no-row-left, one-row}
+use Rattle.trace.proofs.Rows.{under, no_row_yet, no_row_left, one_row}
 use Rattle.trace.proofs.put_rows.Statement.{statement}
 use Rattle.trace.proofs.put_rows.Tie as tie
 
@@ -31,7 +31,7 @@ loop-holds : tie.Need-loop-init invariant-loop decreases-loop
 loop-holds c =
     let a = c.before.before.args in
     record {
-      gives = no-row-yet a.count a.core a.memory.now a.rows.now;
+      gives = no_row_yet a.count a.core a.memory.now a.rows.now;
       size = refl;
       words = refl;
       place = zero-add (4 * a.count);
@@ -56,9 +56,9 @@ loop-again c =
     record {
       gives =
           l.invariant.gives
-          ∙ one-row l.left l.at l.core l.memory l.rows (runGave s.result s.new.1.0) _ _ _ _
+          ∙ one_row l.left l.at l.core l.memory l.rows (run_gave s.result s.new.1.0) _ _ _ _
           test.loop-test.true room s.ensures c.before.before.before.before.before.before.before.before.before.before.before.before.read.ensures c.before.before.before.before.before.before.cycles-of.ensures
-          c.before.before.before.flags-number.ensures c.before.before.put-row.ensures;
+          c.before.before.before.flags_number_lem.ensures c.before.before.put-row.ensures;
       size = search rules;
       words = search rules;
       place = omega (arith, l.invariant.place, test.loop-test.true);
@@ -67,7 +67,7 @@ loop-again c =
 returns : tie.Need-returns invariant-loop decreases-loop
 returns c =
     let l = c.before.loop in
-    sym (l.invariant.gives ∙ no-row-left l.at l.left l.core l.memory l.rows (search rules))
+    sym (l.invariant.gives ∙ no_row_left l.at l.left l.core l.memory l.rows (search rules))
 
 pub put-rows-spec : {M : Type 1} → statement M
 put-rows-spec =

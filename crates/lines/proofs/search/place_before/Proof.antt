@@ -7,7 +7,7 @@ use borrow.Author.Tests.{leb-true, not-false}
 use lib.ListN.{length, drop}
 use lib.Seq.{drop-drop}
 use Rattle.lines.specs.Lines.{find}
-use Rattle.lines.proofs.Eights.{find-over}
+use Rattle.lines.proofs.Eights.{find_over}
 use Rattle.lines.proofs.search.place_before.Statement.{statement}
 use Rattle.lines.proofs.search.place_before.Tie as tie
 
@@ -22,7 +22,7 @@ loop-again c =
     let l = c.before.before.before in
     let a = l.before.before.args in
     let none = sym c.before.none-of-eight.ensures ∙ not-false _ c.if1.false in
-    let over = find-over a.b 8 (drop l.loop.i a.s.now) (leb-true 8 _ none) in
+    let over = find_over a.b 8 (drop l.loop.i a.s.now) (leb-true 8 _ none) in
     (search rules, omega (arith, l.loop.invariant.1, over, ap (find a.b) (drop-drop 8 l.loop.i a.s.now)))
 
 pub place-before-spec : {M : Type 1} → statement M

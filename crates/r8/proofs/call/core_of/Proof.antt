@@ -2,7 +2,7 @@
 use mathlib.Core.Path.{◌∙◌}
 use lib.ListN.{get_or}
 use borrow.Author.Rules.{rules}
-use Rattle.r8_core.specs.Cores.{with_regs, withPc, withSp, with_flags, withHidden, withDue, stopped, withClock}
+use Rattle.r8_core.specs.Cores.{with_regs, with_pc, with_sp, with_flags, with_hidden, with_due, stopped, with_clock}
 use Rattle.r8.proofs.call.core_of.Statement.{statement}
 use Rattle.r8.proofs.call.core_of.Tie as tie
 
@@ -19,10 +19,10 @@ returns c =
     let stop = c.before.stop-of.ensures in
     c.with-stop.ensures
     ∙ (λ j. with_regs (regs j)
-    (withPc (get_or r 16 0)
-    (withSp (get_or r 17 0)
-    (withHidden (hidden j)
-    (with_flags (flags j) (stopped (stop j) (withDue (get_or s 2 0) (withClock (get_or s 3 0) (fresh j)))))))))
+    (with_pc (get_or r 16 0)
+    (with_sp (get_or r 17 0)
+    (with_hidden (hidden j)
+    (with_flags (flags j) (stopped (stop j) (with_due (get_or s 2 0) (with_clock (get_or s 3 0) (fresh j)))))))))
 
 pub core-of-spec : {M : Type 1} → statement M
 core-of-spec =

@@ -4,8 +4,8 @@ use mathlib.Core.List.{List}
 use Prim.Native.Nat.{ℕ}
 use native.Mathlib.Omega.{arith}
 use lib.ListN.{length}
-use Rattle.r8_core.specs.Answers.{runAnswerOf}
-use Rattle.layout.proofs.Theorems.{answer-size}
+use Rattle.r8_core.specs.Answers.{run_answer_of}
+use Rattle.layout.proofs.Theorems.{answer_size_lem}
 use Rattle.layout.proofs.Onto.{fitting}
 use Rattle.layout.specs.Layout.{onto}
 use borrow.Author.Rules.{rules}
@@ -18,7 +18,7 @@ returns c =
     let start = numbers.before.before.before.before.before in
     let answer = start.args.answer.now in
     let said = numbers.run-numbers.ensures in
-    let size : length numbers.run-numbers.result ≡ 23 = ap length said ∙ answer-size.0 (runAnswerOf start.args.reply.answer) in (
+    let size : length numbers.run-numbers.result ≡ 23 = ap length said ∙ answer_size_lem.0 (run_answer_of start.args.reply.answer) in (
       c.before.before.before.before.before.before.before.before.before.before.put-registers.ensures,
       c.before.before.before.before.before.before.put-state.ensures,
       c.before.before.put.ensures ∙ fitting numbers.run-numbers.result answer (omega (arith, size, start.requires.2)) ∙ ap (λ (x : List ℕ). onto x answer) said,

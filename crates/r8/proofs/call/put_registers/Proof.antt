@@ -7,7 +7,7 @@ use lib.Dec.{lit<}
 use lib.ListN.{length, take}
 use lib.Seq.{sets, lt-length-sets}
 use borrow.Author.Rules.{rules}
-use Rattle.r8.proofs.Lengths.{length-onto, filled}
+use Rattle.r8.proofs.Lengths.{length_onto, filled}
 use Rattle.r8.proofs.call.put_registers.Statement.{statement}
 use Rattle.r8.proofs.call.put_registers.Tie as tie
 
@@ -31,7 +31,7 @@ within : (c : tie.After-slice-known2) (n k : ℕ) → k < 22 → k < length (set
 within c n k h =
     let start = c.before.before.before.before.before.before.before in
     let size : length start.args.core.regs ≡ 16 = sym (slice-aggregate-words c.before.before.before.before) in
-    let put = length-onto start.args.core.regs start.args.registers.now (omega (arith, start.requires)) in
+    let put = length_onto start.args.core.regs start.args.registers.now (omega (arith, start.requires)) in
     lt-length-sets (banked c) 16 (take n (six c)) (omega (arith, ap length c.before.before.words.ensures, put, start.requires))
 
 slice-write-registers-2 : tie.Need-slice-write-registers-2

@@ -4,7 +4,7 @@ use mathlib.Core.List.{List, ◌++◌}
 use Prim.Native.Nat.{ℕ, ◌≤◌, ◌-◌}
 use borrow.Author.Rules.{rules}
 use lib.ListN.{length, take, drop, get_or, set, length-set}
-use Rattle.layout.proofs.Onto.{one_more, all-written}
+use Rattle.layout.proofs.Onto.{one_more, all_written}
 use Rattle.r8.proofs.copy.words.Statement.{statement}
 use Rattle.r8.proofs.copy.words.Tie as tie
 
@@ -26,7 +26,7 @@ returns : tie.Need-returns invariant-loop decreases-loop
 returns c =
     let l = c.before in
     let a = l.before.args in
-    l.loop.invariant.1 ∙ all-written a.from.now a.to.now l.loop.i (search rules)
+    l.loop.invariant.1 ∙ all_written a.from.now a.to.now l.loop.i (search rules)
 
 pub words-spec : {M : Type 1} → statement M
 words-spec =

@@ -2,7 +2,7 @@
 use mathlib.Core.Path.{ap, ◌∙◌}
 use mathlib.Core.List.{List}
 use Prim.Native.Nat.{ℕ}
-use Rattle.layout.specs.Layout.{ontoIfRoom}
+use Rattle.layout.specs.Layout.{onto_if_room}
 use borrow.Author.Rules.{rules}
 use Rattle.r8.proofs.rows.put_found.Statement.{statement}
 use Rattle.r8.proofs.rows.put_found.Tie as tie
@@ -10,13 +10,13 @@ use Rattle.r8.proofs.rows.put_found.Tie as tie
 returns : tie.Need-returns
 returns c =
     let a = c.before.before.before.before.before.before.before.before.before.args.answer.now in
-    let put = c.before.before.put.ensures ∙ ap (λ (n : List ℕ). ontoIfRoom n a) c.before.before.before.run-numbers.ensures in
+    let put = c.before.before.put.ensures ∙ ap (λ (n : List ℕ). onto_if_room n a) c.before.before.before.run-numbers.ensures in
     rw c.before.before.before.before.before.before.found.given.1 (λ j. (0, put j))
 
 returns-2 : tie.Need-returns-2
 returns-2 c =
     let a = c.before.before.before.before.before.before.before.before.before.args.answer.now in
-    let put = c.before.before.put2.ensures ∙ ap (λ (n : List ℕ). ontoIfRoom n a) c.before.before.before.load-numbers.ensures in
+    let put = c.before.before.put2.ensures ∙ ap (λ (n : List ℕ). onto_if_room n a) c.before.before.before.load-numbers.ensures in
     rw c.before.before.before.before.before.before.found2.given.1 (λ j. (0, put j))
 
 returns-3 : tie.Need-returns-3

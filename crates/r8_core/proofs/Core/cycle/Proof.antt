@@ -4,12 +4,12 @@ use Prim.Native.Nat.{◌+◌}
 use native.Mathlib.Omega.{arith}
 use borrow.Author.Rules.{rules}
 use borrow.Author.Tests.{ltb-false}
-use Rattle.r8_core.specs.Datapath.{cycleOrIdle}
+use Rattle.r8_core.specs.Datapath.{cycle_or_idle}
 use Rattle.r8_core.proofs.Core.cycle.Statement.{statement}
 use Rattle.r8_core.proofs.Core.cycle.Tie as tie
 
 returns : tie.Need-returns
-unfolding cycleOrIdle
+unfolding cycle_or_idle
 returns c = c.idle.ensures ∙ sym (rw (sym c.before.before.clock-full.ensures ∙ c.before.if1.true))
 
 due-cycle-requires : tie.Need-due-cycle-requires
@@ -18,7 +18,7 @@ due-cycle-requires c κs =
     omega (arith, ltb-false 4294967295 (clock + 1) (sym c.before.clock-full.ensures ∙ c.if1.false))
 
 returns-2 : tie.Need-returns-2
-unfolding cycleOrIdle
+unfolding cycle_or_idle
 returns-2 c = c.due-cycle.ensures ∙ sym (rw (sym c.before.before.clock-full.ensures ∙ c.before.if1.false))
 
 pub cycle-spec : {M : Type 1} → statement M

@@ -3,14 +3,14 @@ use mathlib.Core.Path.{sym, ap, ◌∙◌}
 use native.Mathlib.Nat.{zero-add}
 use Rattle.words.specs.Arithmetic.{bit}
 use Rattle.effects.specs.Effect.{applied}
-use Rattle.r8_core.specs.Progress.{cycleOn}
+use Rattle.r8_core.specs.Progress.{cycle_on}
 use Rattle.r8_core.specs.declared.Transition.{Transition}
 use borrow.Author.Rules.{rules}
 use Rattle.r8_core.proofs.Core.cycle_on.Statement.{statement}
 use Rattle.r8_core.proofs.Core.cycle_on.Tie as tie
 
 returns : tie.Need-returns
-unfolding cycleOn
+unfolding cycle_on
 returns c =
     let l = c.before.before.before in
     let start = l.before.before.before.before.before.before in

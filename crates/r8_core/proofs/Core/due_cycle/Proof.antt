@@ -5,9 +5,9 @@ use native.Mathlib.Omega.{arith}
 use borrow.Author.Rules.{rules}
 use Rattle.isa.specs.declared.Kind.{Kind}
 use Rattle.effects.specs.declared.Store.TheVariants.{Nothing}
-use Rattle.r8_core.specs.Datapath.{transition, laterCycle}
+use Rattle.r8_core.specs.Datapath.{transition, later_cycle}
 use Rattle.r8_core.specs.declared.Core.{Core}
-use Rattle.r8_core.proofs.Cycles.{first-cycle, later}
+use Rattle.r8_core.proofs.Cycles.{first_cycle, later}
 use Rattle.r8_core.proofs.Core.due_cycle.Statement.{statement}
 use Rattle.r8_core.proofs.Core.due_cycle.Tie as tie
 
@@ -23,13 +23,13 @@ returns c =
     let a = c.before.before.before.before.before.args in
     c.transition.ensures
     ∙ ap (λ (core : Core). transition false core Nothing) c.before.fetch.ensures
-    ∙ sym (first-cycle a.memory.now a.self c.before.before.if1.true)
+    ∙ sym (first_cycle a.memory.now a.self c.before.before.if1.true)
 
 returns-2 : tie.Need-returns-2
 returns-2 c =
     let a = c.before.before.before.before.before.args in
     c.later-cycle.ensures
-    ∙ ap (λ (kind : Kind). laterCycle kind a.memory.now a.self) c.before.kind-of.ensures
+    ∙ ap (λ (kind : Kind). later_cycle kind a.memory.now a.self) c.before.kind-of.ensures
     ∙ sym (later a.memory.now a.self c.before.before.if1.false)
 
 pub due-cycle-spec : {M : Type 1} → statement M

@@ -9,12 +9,12 @@ use Rattle.r8_core.proofs.Core.instructions_or_cycle.Tie as tie
 instructions-requires : tie.Need-instructions-requires
 instructions-requires c κs =
     let test = c.before.before in
-    (sym test.one-due.ensures ∙ c.before.if2.true, test.before.before.before.requires.1)
+    (sym test.one_due_lem.ensures ∙ c.before.if2.true, test.before.before.before.requires.1)
 
 returns : tie.Need-returns
 returns c =
     let t = c.before.before.before.before in
-    let one = sym t.before.one-due.ensures ∙ t.if2.true in
+    let one = sym t.before.one_due_lem.ensures ∙ t.if2.true in
     c.before.before.instructions.ensures ∙ sym (rw (one, le-leb 4 _ t.before.before.if1.true))
 
 returns-2 : tie.Need-returns-2

@@ -9,7 +9,7 @@ use Rattle.r8_core.proofs.Core.ran.Tie as tie
 returns : tie.Need-returns
 returns c =
     let a = c.before.before.args in
-    (refl, ap (λ (e : End). ran a.used.0 a.finished.0 e) (c.end_of_lem.ensures ∙ ap (end_of a.self.stop) c.before.one-due.ensures))
+    (refl, ap (λ (e : End). ran a.used.0 a.finished.0 e) (c.end_of_lem.ensures ∙ ap (end_of a.self.stop) c.before.one_due_lem.ensures))
 
 pub ran-spec : {M : Type 1} → statement M
 ran-spec =

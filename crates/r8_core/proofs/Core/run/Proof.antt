@@ -7,16 +7,16 @@ use native.Mathlib.Omega.{arith}
 use mathlib.Core.List.{List}
 use Prim.Native.Nat.{ℕ, ◌+◌, ◌-◌, ◌≤◌}
 use lib.ListN.{length}
-use Rattle.r8_core.specs.Spent.{dueInRange}
-use Rattle.r8_core.specs.Numbers.{runNumber}
-use Rattle.r8_core.specs.Progress.{Progress, cyclesOn}
-use Rattle.r8_core.specs.Calls.{Reply, ranReply, run}
-use Rattle.refusals.specs.Verdicts.{verdictNumber}
+use Rattle.r8_core.specs.Spent.{due_in_range}
+use Rattle.r8_core.specs.Numbers.{run_number}
+use Rattle.r8_core.specs.Progress.{Progress, cycles_on}
+use Rattle.r8_core.specs.Calls.{Reply, ran_reply, run}
+use Rattle.refusals.specs.Verdicts.{verdict_number}
 use Rattle.r8_core.specs.WholeInstructions.{reached}
 use Rattle.r8_core.specs.declared.Core.{Core}
 use Rattle.r8_core.proofs.Refusals.{ready}
 use Rattle.r8_core.proofs.Cycles.{none_more}
-use Rattle.r8_core.proofs.Replies.{refused-reply, run-starts, run-over}
+use Rattle.r8_core.proofs.Replies.{refused_reply, run_starts, run_over}
 use Rattle.r8_core.proofs.WholeInstructions.{Onward, onward}
 use Rattle.r8_core.proofs.Core.run.Statement.{statement}
 use Rattle.r8_core.proofs.Core.run.Tie as tie
@@ -31,12 +31,12 @@ use Rattle.r8_core.proofs.Core.ran.Reads as ran-reads
 
 -- a run of b cycles under way: the cycles left give the reply of the whole
 record Reached (reply : Reply) (before : List ℕ) (b : ℕ) (p : Progress) : Type 0 where
-  left : reply ≡ ranReply (cyclesOn (b - p.used) p)
+  left : reply ≡ ran_reply (cycles_on (b - p.used) p)
   size : length p.memory ≡ length before
   few : p.finished ≤ p.used
   within : p.used ≤ b
   room : p.core.clock.0 + (b - p.used) ≤ 4294967295
-  due : dueInRange p.core ≡ true
+  due : due_in_range p.core ≡ true
 
 abbrev progress : Core → List ℕ → ℕ → ℕ → Progress
 progress core memory used finished = record { core = core; memory = memory; used = used; finished = finished }
@@ -52,24 +52,24 @@ returns : tie.Need-returns invariant-loop decreases-loop
 unfolding run
 returns c =
     let a = c.before.before.before.before.before.before.before.before.args in
-    let at : Bool → ℕ = λ ready. runNumber (length a.memory.now) a.self.stop ready a.self.clock.0 a.b in
+    let at : Bool → ℕ = λ ready. run_number (length a.memory.now) a.self.stop ready a.self.clock.0 a.b in
     let verdict = c.before.before.before.before in
     let number = verdict.run-verdict.ensures ∙ ap at verdict.before.due-in-range.ensures in
     let refused = c.run-refused.ensures in
     let why = c.before.before.verdict.given in
     (λ j. record { answer = refused.1 j; core = refused.0 j; memory = a.memory.now })
-    ∙ refused-reply _ why.0.0 a.self a.memory.now _ (sym (ap verdictNumber why.1) ∙ number)
+    ∙ refused_reply _ why.0.0 a.self a.memory.now _ (sym (ap verdict_number why.1) ∙ number)
 
 loop-holds : tie.Need-loop-init invariant-loop decreases-loop
 loop-holds c =
     let a = c.before.before.before.before.before.before.args in
-    let at : Bool → ℕ = λ ready. runNumber (length a.memory.now) a.self.stop ready a.self.clock.0 a.b in
+    let at : Bool → ℕ = λ ready. run_number (length a.memory.now) a.self.stop ready a.self.clock.0 a.b in
     let verdict = c.before.before in
     let number = verdict.run-verdict.ensures ∙ ap at verdict.before.due-in-range.ensures in
-    let none = sym number ∙ ap verdictNumber c.enum_told.given.1 in
+    let none = sym number ∙ ap verdict_number c.enum_told.given.1 in
     let ready = ready _ _ _ _ _ none in
     record {
-      left = run-starts a.b a.self a.memory.now none;
+      left = run_starts a.b a.self a.memory.now none;
       size = refl;
       few = omega arith;
       within = omega arith;
@@ -117,7 +117,7 @@ loop-again c =
     let l = n.before.before.before.before.before.before.before.loop in
     let on = moved n in
     record {
-      left = l.invariant.left ∙ ap ranReply on.left;
+      left = l.invariant.left ∙ ap ran_reply on.left;
       size = on.size ∙ l.invariant.size;
       few = omega (arith, on.few, l.invariant.few);
       within = omega (arith, on.below, on.most);
@@ -135,10 +135,10 @@ returns-2 c =
     let over =
     ⊎_elim
     (λ w. none_more _ p (sym w.1.ensures ∙ w.2.left))
-    (λ w. run-over _ p w.left)
+    (λ w. run_over _ p w.left)
     c.before.if1.branch in
     let ended = c.ran.ensures in
-    (λ j. record { answer = ended.1 j; core = ended.0 j; memory = l.memory }) ∙ sym (l.invariant.left ∙ ap ranReply over)
+    (λ j. record { answer = ended.1 j; core = ended.0 j; memory = l.memory }) ∙ sym (l.invariant.left ∙ ap ran_reply over)
 
 pub run_spec : {M : Type 1} → statement M
 run_spec =

@@ -2,14 +2,14 @@
 use mathlib.Core.Path.{ap, ◌∙◌}
 use lib.ListN.{set}
 use native.Mathlib.Omega.{arith}
-use Rattle.isa.specs.Fields.{fieldT}
-use Rattle.isa.specs.Cost.{costOf}
+use Rattle.isa.specs.Fields.{field_t}
+use Rattle.isa.specs.Cost.{cost_of}
 use Rattle.isa.specs.declared.Kind.{Kind}
 use Rattle.table.specs.Table.{kind_of}
 use Rattle.effects.specs.Effect.{applied}
-use Rattle.r8_core.specs.Instruction.{takes, memoryAfter}
-use Rattle.r8_core.specs.WholeInstructions.{executedOf, workingAfter}
-use Rattle.r8_core.proofs.Cycles.{cost-of-range}
+use Rattle.r8_core.specs.Instruction.{takes, memory_after}
+use Rattle.r8_core.specs.WholeInstructions.{executed_of, working_after}
+use Rattle.r8_core.proofs.Cycles.{cost_of_range}
 use borrow.Author.Rules.{rules}
 use Rattle.r8_core.proofs.Working.instruct.Statement.{statement}
 use Rattle.r8_core.proofs.Working.instruct.Tie as tie
@@ -18,10 +18,10 @@ after-requires : tie.Need-after-requires
 after-requires c κs =
     let k = c.before.before.before.before.before.before in
     let start = k.before.before.before.before.before in
-    omega (arith, c.before.cost.ensures, (cost-of-range k.kind-of.result start.args.self.flags).1, start.requires)
+    omega (arith, c.before.cost.ensures, (cost_of_range k.kind-of.result start.args.self.flags).1, start.requires)
 
 returns : tie.Need-returns
-unfolding takes memoryAfter
+unfolding takes memory_after
 returns c =
     let l = c.before.before.before.before.before.before in
     let m = l.before.before.before.before in
@@ -32,10 +32,10 @@ returns c =
     let M = a.memory.now in
     let word = r.read.ensures in
     let kind = k.kind-of.ensures ∙ ap kind_of word in
-    let done = m.before.before.before.before.execute.ensures ∙ (λ j. executedOf (kind j) (word j) bank M a.self) in
-    let cycles = m.before.before.cost.ensures ∙ ap (λ (k : Kind). costOf k a.self.flags) kind in
-    let t = l.before.field-t.ensures ∙ ap fieldT word in (
-      m.after.ensures ∙ (λ j. workingAfter (kind j) (word j) bank (done j) (cycles j) a.self),
+    let done = m.before.before.before.before.execute.ensures ∙ (λ j. executed_of (kind j) (word j) bank M a.self) in
+    let cycles = m.before.before.cost.ensures ∙ ap (λ (k : Kind). cost_of k a.self.flags) kind in
+    let t = l.before.field_t_lem.ensures ∙ ap field_t word in (
+      m.after.ensures ∙ (λ j. working_after (kind j) (word j) bank (done j) (cycles j) a.self),
       l.set-register.ensures ∙ (λ j. set bank (t j) (done j).effect.rt),
       c.before.before.apply.ensures ∙ (λ j. applied (done j).effect.store M),
     )
