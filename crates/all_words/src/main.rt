@@ -1,6 +1,7 @@
 // Takes all 65,536 words to forms and back, and prints how many are defined, undefined, written
 // back unchanged, and refused by form to word. Then prints one word of each of the 40 instructions
 // with the name and the operands that its form has; the registers that a form has differ.
+#![tactic(auto)]
 ghost use Rattle.std.specs.Prelude.{◌≤◌};
 
 use forms::{Form, FormAnswer, WordAnswer};

@@ -1,6 +1,7 @@
 // Runs document 01's worked values, and corner values of carry, overflow and flags that stay, and
 // prints a line for each: mnemonic, operands, result and NZCV after. The flags before are clear,
 // or all set where a line says `from 1111`.
+#![tactic(auto)]
 ghost use Rattle.std.specs.Prelude.{◌≤◌};
 
 use alu::Outcome;

@@ -1,4 +1,5 @@
 // The five calls at the corners of their rules, a printed line for each: what was called on what, and the answer.
+#![tactic(auto)]
 use isa::Cycles;
 use r8_core::{Core, LoadAnswer, RunAnswer, RunReply, ViewAnswer};
 

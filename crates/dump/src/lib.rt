@@ -1,4 +1,5 @@
 // Listings back out of memory: words of a lent memory, written as lines of a listing into a lent text. No core is taken.
+#![tactic(auto)]
 ghost use Rattle.std.specs.Prelude.{◌≡◌, ◌++◌, ◌+◌, ◌*◌, ◌≤◌, length, drop};
 ghost use Rattle.std.proofs.lemmas.List.Edits.{sets};
 ghost use Rattle.hexadecimal.specs.Digits.{word_text};

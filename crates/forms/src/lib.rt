@@ -1,4 +1,5 @@
 // Instruction words and forms: word to form and form to word, by the table of `table`.
+#![tactic(auto)]
 ghost use Rattle.std.specs.Prelude.{◌≡◌, ◌%◌};
 ghost use Rattle.forms.specs.Answers.{form_answer, word_answer};
 ghost use Rattle.forms.specs.Operands.{signed, unsigned, operands_of, outside, fault, placed};

@@ -1,4 +1,5 @@
 // The instruction set of document 01: kinds, fields, conditions, targets and cycle counts.
+#![tactic(auto)]
 ghost use Rattle.std.specs.Prelude.{◌≡◌};
 ghost use Rattle.isa.specs.Fields.{field_o, field_t, field_a, field_b, field_k, d10, d12};
 ghost use Rattle.isa.specs.Control.{taken, address, jump_target, call_target, second_register};
@@ -233,6 +234,7 @@ fn class_of(kind: Kind, flags: Flags) -> Class
 }
 
 // The cycles that an instruction takes under these flags.
+#[tactic(auto, unfolding(crate::specs::Cost::cost_of))]
 pub fn cost(kind: Kind, flags: Flags) -> Cycles
     ensures { result.0 ≡ cost_of kind flags }
 {

@@ -1,4 +1,5 @@
 // The calls with their answers laid out as numbers: 23 for each, the case first, then what it names, then zeros.
+#![tactic(auto)]
 ghost use Rattle.std.specs.Prelude.{◌≡◌, List, [], ◌∷◌, ℕ, ◌≤◌};
 ghost use Rattle.words.specs.Arithmetic.{bit};
 ghost use Rattle.r8_core.specs.Calls.{done, refused, reset, load, run, step, view};

@@ -1,5 +1,6 @@
 // The line reader of a listing, and the comment call. A line is four hexadecimal digits (an address), one space, four digits (a word),
 // spaces or none, then nothing or `;` and a comment; or it is spaces or none, and says nothing. An LF or the end of the listing ends it.
+#![tactic(auto)]
 ghost use Rattle.std.specs.Prelude.{◌≡◌, ◌+◌, ◌≤◌, min, length, drop};
 ghost use Rattle.hexadecimal.specs.Digits.{digit_value};
 ghost use Rattle.lines.specs.Lines.{first_line, after_spaces, ends, four_digits, number_at, read_line};

@@ -1,5 +1,6 @@
 // Corner cases of the listing's store and of the comment call, a printed line for each. For a store: the answer, the first four
 // words that changed, and how many did.
+#![tactic(auto)]
 ghost use Rattle.std.specs.Prelude.{◌<◌, ◌≤◌, length};
 
 use listing::StoreAnswer;

@@ -1,4 +1,5 @@
 // A lent page that is filled with text. A place is where the next byte goes; a byte that would go past the page's end is lost.
+#![tactic(auto)]
 ghost use Rattle.std.specs.Prelude.{◌≡◌, ◌++◌};
 ghost use Rattle.hexadecimal.specs.Digits.{word_text};
 ghost use Rattle.text.specs.Decimal.{decimal_text};

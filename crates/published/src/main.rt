@@ -1,6 +1,7 @@
 // The published test listing of source document 003, section 9, from standard input (its address and word columns; the comments are our
 // own): executed in steps, with what the comments of 003 say of registers, SP, PC and flags beside what is found; then the registers and
 // the totals of a run.
+#![tactic(auto)]
 use isa::Flags;
 use r8_core::{Core, LoadAnswer, RunAnswer, Snapshot, ViewAnswer};
 

@@ -1,6 +1,7 @@
 // The core of document 01, by value, and its five calls: reset, load, run, step and view. Run goes by cycles of the datapath, and by whole
 // instructions where the budget has room for them; step is one instruction. No call asks anything of its caller: what does not fit is refused
 // and changes nothing. In a contract `self` is the core as it was handed in, whatever becomes of it.
+#![tactic(auto)]
 ghost use Rattle.std.specs.Prelude.{◌≡◌, true, false, cond, ◌+◌, ◌≤◌, ◌<◌, ltb, set};
 ghost use Rattle.words.specs.Arithmetic.{bit};
 ghost use Rattle.refusals.specs.Refusals.{refusal_number};

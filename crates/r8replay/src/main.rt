@@ -1,5 +1,6 @@
 // r8replay: plays a script of calls from standard input on a fresh core and a memory of 16,384 zero words. Writes a line for each call's
 // answer, and the lines of each listing that is asked for; or the first line of the script that cannot be read.
+#![tactic(auto)]
 use dump::DumpAnswer;
 use r8_core::{Core, LoadAnswer};
 use replay::CallAnswer;

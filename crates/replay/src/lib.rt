@@ -1,4 +1,5 @@
 // Replay plays a list of calls that is given as data, and answers as the instruction machine of document 01 does.
+#![tactic(auto)]
 ghost use Rattle.std.specs.Prelude.{◌≡◌, List, ◌++◌, ℕ, ◌≤◌, length, take, drop};
 ghost use Rattle.layout.specs.Layout.{onto_if_room, numbered, gave};
 ghost use Rattle.machine.specs.Theorem.{reply_to};

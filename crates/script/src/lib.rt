@@ -1,4 +1,5 @@
 // Scripts: calls as lines of text, read into the numbers that replay::replay takes, and listings among them.
+#![tactic(auto)]
 ghost use Rattle.std.specs.Prelude.{◌≡◌, ◌+◌, ◌*◌, ◌≤◌, ◌<◌, length};
 ghost use Rattle.script.specs.Commands.{begins, says, is_digit, value_of, decimal_of, run_of, listing_of, listing_at, with_numbers, command_of};
 ghost use Rattle.script.specs.Script.{outside, is_load, is_end, inside, meaning_of, after_outside, after_inside, place_after, followed, script_of, gave, script_read};

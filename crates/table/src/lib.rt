@@ -1,4 +1,5 @@
 // The instruction table of document 01: which instruction a word is, and the word of each.
+#![tactic(auto)]
 ghost use Rattle.std.specs.Prelude.{◌≡◌, ◌<◌};
 ghost use Rattle.table.specs.Table.{place_of, kind_of, binary_entry, constant_entry, unary_entry, condition_rank, jump_entry, call_entry, entry, word_of};
 

@@ -1,5 +1,7 @@
 // Words of 16 bits: memory that is lent, sums and differences modulo 65,536, bits and shifts.
 // Each function is total: no address and no word is refused.
+#![tactic(auto)]
+
 ghost use Rattle.std.specs.Prelude.{◌≡◌};
 ghost use Rattle.words.specs.Memory.{word_at, stored};
 ghost use Rattle.words.specs.Arithmetic.{sum, difference, conjunction, disjunction, exclusive, complement, left, right};
