@@ -7,7 +7,7 @@ ghost use Rattle.alu.specs.Results.{binary_result, constant_result, unary_result
 use isa::{BinaryOp, ConstantOp, Flags, UnaryOp};
 
 // A result, and the flags after it.
-#[derive(Drop)]
+#[derive(Clone, Copy)]
 pub struct Outcome {
     pub value: u16,
     pub flags: Flags,

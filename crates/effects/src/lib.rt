@@ -11,7 +11,7 @@ use alu::Outcome;
 use isa::{Flags, Kind};
 
 // The stop state.
-#[derive(Drop)]
+#[derive(Clone, Copy)]
 pub enum Stop {
     Going,
     Halted,
@@ -19,14 +19,14 @@ pub enum Stop {
 }
 
 // At most one word to be stored.
-#[derive(Drop)]
+#[derive(Clone, Copy)]
 pub enum Store {
     Nothing,
     Word { address: u16, word: u16 },
 }
 
 // The hidden registers.
-#[derive(Drop)]
+#[derive(Clone, Copy)]
 pub struct Hidden {
     pub ir: u16,
     pub ra: u16,
@@ -35,7 +35,7 @@ pub struct Hidden {
 }
 
 // What an instruction can change: the register that its field t names, PC, SP, flags, stop state, and one word of memory.
-#[derive(Drop)]
+#[derive(Clone, Copy)]
 pub struct Effect {
     pub rt: u16,
     pub pc: u16,
@@ -46,7 +46,7 @@ pub struct Effect {
 }
 
 // What a whole instruction does, and what its cycles leave in RALU.
-#[derive(Drop)]
+#[derive(Clone, Copy)]
 pub struct Executed {
     pub effect: Effect,
     pub ralu: u16,

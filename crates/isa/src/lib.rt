@@ -5,7 +5,7 @@ ghost use Rattle.isa.specs.Fields.{field_o, field_t, field_a, field_b, field_k, 
 ghost use Rattle.isa.specs.Control.{taken, address, jump_target, call_target, second_register};
 ghost use Rattle.isa.specs.Cost.{count_of, jump_class, class_of, cost_of};
 
-#[derive(Drop)]
+#[derive(Clone, Copy)]
 pub enum BinaryOp {
     Add,
     Sub,
@@ -14,7 +14,7 @@ pub enum BinaryOp {
     Xor,
 }
 
-#[derive(Drop)]
+#[derive(Clone, Copy)]
 pub enum ConstantOp {
     Addi,
     Subi,
@@ -22,7 +22,7 @@ pub enum ConstantOp {
     Ldh,
 }
 
-#[derive(Drop)]
+#[derive(Clone, Copy)]
 pub enum UnaryOp {
     Sl0,
     Sl1,
@@ -31,7 +31,7 @@ pub enum UnaryOp {
     Not,
 }
 
-#[derive(Drop)]
+#[derive(Clone, Copy)]
 pub enum Condition {
     Always,
     Negative,
@@ -41,7 +41,7 @@ pub enum Condition {
 }
 
 // Where a jump or a call goes: PC+Ra, Ra, or PC and the displacement (d10 of a jump, d12 of a call).
-#[derive(Drop)]
+#[derive(Clone, Copy)]
 pub enum Target {
     Relative,
     Absolute,
@@ -49,7 +49,7 @@ pub enum Target {
 }
 
 // An instruction without its operands.
-#[derive(Drop)]
+#[derive(Clone, Copy)]
 pub enum Kind {
     Undefined,
     Binary(BinaryOp),
@@ -67,7 +67,7 @@ pub enum Kind {
     Call(Target),
 }
 
-#[derive(Drop)]
+#[derive(Clone, Copy)]
 pub struct Flags {
     pub n: bool,
     pub z: bool,
@@ -76,7 +76,7 @@ pub struct Flags {
 }
 
 // What an instruction's cost goes by: HALT and undefined; NOP and an untaken jump; all others.
-#[derive(Drop)]
+#[derive(Clone, Copy)]
 pub enum Class {
     Stop,
     Short,
@@ -84,7 +84,7 @@ pub enum Class {
 }
 
 // A number of clock cycles.
-#[derive(Drop)]
+#[derive(Clone, Copy)]
 pub struct Cycles(pub u32);
 
 pub fn field_o(word: u16) -> u8
