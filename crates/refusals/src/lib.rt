@@ -5,7 +5,7 @@ ghost use Rattle.refusals.specs.Refusals.{refusal_number, wrong_length, or_else}
 ghost use Rattle.refusals.specs.declared.Verdict.TheVariants.{Taken};
 
 // Numbers 1, 7, 8, 9 and 10.
-#[derive(Drop)]
+#[derive(Clone, Copy)]
 pub enum Refusal {
     WrongLength,
     WrongCycle,
@@ -15,7 +15,7 @@ pub enum Refusal {
 }
 
 // What a call finds before it starts.
-#[derive(Drop)]
+#[derive(Clone, Copy)]
 pub enum Verdict {
     Taken,
     Refused(Refusal),
