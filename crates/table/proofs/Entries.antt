@@ -58,32 +58,28 @@ entry_kind w h = entry_at (place_of w) (place_le w h)
 pub kind_at : (k : Kind) → get_or table (entry k) Undefined ≡ k
 unfolding table
 kind_at Undefined = refl
-kind_at (Binary op) = elim op [ Add ↦ refl | Sub ↦ refl | And ↦ refl | Or ↦ refl | Xor ↦ refl ]
-kind_at (Constant op) = elim op [ Addi ↦ refl | Subi ↦ refl | Ldl ↦ refl | Ldh ↦ refl ]
+kind_at (Binary op) = elim op as (λ o. get_or table (entry (Binary o)) Undefined ≡ Binary o) [ Add ↦ refl | Sub ↦ refl | And ↦ refl | Or ↦ refl | Xor ↦ refl ]
+kind_at (Constant op) = elim op as (λ o. get_or table (entry (Constant o)) Undefined ≡ Constant o) [ Addi ↦ refl | Subi ↦ refl | Ldl ↦ refl | Ldh ↦ refl ]
 kind_at Ld = refl
 kind_at St = refl
-kind_at (Unary op) = elim op [ Sl0 ↦ refl | Sl1 ↦ refl | Sr0 ↦ refl | Sr1 ↦ refl | Not ↦ refl ]
+kind_at (Unary op) = elim op as (λ o. get_or table (entry (Unary o)) Undefined ≡ Unary o) [ Sl0 ↦ refl | Sl1 ↦ refl | Sr0 ↦ refl | Sr1 ↦ refl | Not ↦ refl ]
 kind_at Nop = refl
 kind_at Halt = refl
 kind_at Ldsp = refl
 kind_at Rts = refl
 kind_at Pop = refl
 kind_at Push = refl
-kind_at (Jump Always t) = elim t [ Relative ↦ refl | Absolute ↦ refl | Displaced ↦ refl ]
-kind_at (Jump Negative t) = elim t [ Relative ↦ refl | Absolute ↦ refl | Displaced ↦ refl ]
-kind_at (Jump Zero t) = elim t [ Relative ↦ refl | Absolute ↦ refl | Displaced ↦ refl ]
-kind_at (Jump Carry t) = elim t [ Relative ↦ refl | Absolute ↦ refl | Displaced ↦ refl ]
-kind_at (Jump Overflow t) = elim t [ Relative ↦ refl | Absolute ↦ refl | Displaced ↦ refl ]
-kind_at (Call target) = elim target [ Relative ↦ refl | Absolute ↦ refl | Displaced ↦ refl ]
+kind_at (Jump Always t) = elim t as (λ u. get_or table (entry (Jump Always u)) Undefined ≡ Jump Always u) [ Relative ↦ refl | Absolute ↦ refl | Displaced ↦ refl ]
+kind_at (Jump Negative t) = elim t as (λ u. get_or table (entry (Jump Negative u)) Undefined ≡ Jump Negative u) [ Relative ↦ refl | Absolute ↦ refl | Displaced ↦ refl ]
+kind_at (Jump Zero t) = elim t as (λ u. get_or table (entry (Jump Zero u)) Undefined ≡ Jump Zero u) [ Relative ↦ refl | Absolute ↦ refl | Displaced ↦ refl ]
+kind_at (Jump Carry t) = elim t as (λ u. get_or table (entry (Jump Carry u)) Undefined ≡ Jump Carry u) [ Relative ↦ refl | Absolute ↦ refl | Displaced ↦ refl ]
+kind_at (Jump Overflow t) = elim t as (λ u. get_or table (entry (Jump Overflow u)) Undefined ≡ Jump Overflow u) [ Relative ↦ refl | Absolute ↦ refl | Displaced ↦ refl ]
+kind_at (Call target) = elim target as (λ u. get_or table (entry (Call u)) Undefined ≡ Call u) [ Relative ↦ refl | Absolute ↦ refl | Displaced ↦ refl ]
 
 -- a word that stands where a kind does is of that kind
 pub kind_by_place : (w : ℕ) (k : Kind) → place_of w ≡ entry k → kind_of w ≡ k
 unfolding kind_of
 kind_by_place w k e = ap (λ (n : ℕ). get_or table n Undefined) e ∙ kind_at k
-
--- the kind that code finds at a word's place
-pub found_at : (w n : ℕ) (k : Kind) → n ≡ place_of w → n ≡ entry k → k ≡ kind_of w
-found_at w n k p e = sym (kind_by_place w k (sym p ∙ e))
 
 -- a number that is none of the first k is k or more
 abbrev None : ℕ → ℕ → Type 0
@@ -99,19 +95,19 @@ found_past w n p h = sym (kind_past w (subst (λ (m : ℕ). 40 ≤ m) p (none_be
 
 -- which line of the table an entry is on
 pub binary_on_O : (op : BinaryOp) → binary_entry op < 11
-binary_on_O op = elim op [ Add ↦ lit< tt | Sub ↦ lit< tt | And ↦ lit< tt | Or ↦ lit< tt | Xor ↦ lit< tt ]
+binary_on_O op = elim op as (λ o. binary_entry o < 11) [ Add ↦ lit< tt | Sub ↦ lit< tt | And ↦ lit< tt | Or ↦ lit< tt | Xor ↦ lit< tt ]
 
 pub constant_on_O : (op : ConstantOp) → constant_entry op < 11
-constant_on_O op = elim op [ Addi ↦ lit< tt | Subi ↦ lit< tt | Ldl ↦ lit< tt | Ldh ↦ lit< tt ]
+constant_on_O op = elim op as (λ o. constant_entry o < 11) [ Addi ↦ lit< tt | Subi ↦ lit< tt | Ldl ↦ lit< tt | Ldh ↦ lit< tt ]
 
 pub unary_on_B : (op : UnaryOp) → (11 ≤ unary_entry op) × (unary_entry op < 34)
-unary_on_B op = elim op [ Sl0 ↦ omega arith | Sl1 ↦ omega arith | Sr0 ↦ omega arith | Sr1 ↦ omega arith | Not ↦ omega arith ]
+unary_on_B op = elim op as (λ o. (11 ≤ unary_entry o) × (unary_entry o < 34)) [ Sl0 ↦ omega arith | Sl1 ↦ omega arith | Sr0 ↦ omega arith | Sr1 ↦ omega arith | Not ↦ omega arith ]
 
 pub jump_on : (c : Condition) (t : Target) → (first_jump t ≤ jump_entry c t) × (jump_entry c t < first_jump t + 5)
 jump_on c t = let h = below c in omega arith
   where
     below : (c : Condition) → condition_rank c < 5
-    below c = elim c [ Always ↦ lit< tt | Negative ↦ lit< tt | Zero ↦ lit< tt | Carry ↦ lit< tt | Overflow ↦ lit< tt ]
+    below c = elim c as (λ d. condition_rank d < 5) [ Always ↦ lit< tt | Negative ↦ lit< tt | Zero ↦ lit< tt | Carry ↦ lit< tt | Overflow ↦ lit< tt ]
 
 -- the line of a word's own kind
 pub line_of : (w : ℕ) → w < 65536 → (k : Kind) → kind_of w ≡ k → Line w (entry k)

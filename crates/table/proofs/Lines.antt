@@ -1,9 +1,9 @@
 -- Words and entries of the table, there and back, over all fields at one go. Assumes nothing.
 use mathlib.Core.Path.{◌≡◌, ◌∙◌}
-use Prim.Native.Nat.{ℕ, ◌+◌, ◌-◌, ◌*◌, ◌/◌, ◌%◌, ◌≤◌, ◌<◌}
+use Prim.Native.Nat.{ℕ, ◌+◌, ◌%◌, ◌≤◌, ◌<◌}
 use native.Mathlib.Omega.{arith}
 use native.Mathlib.Decide.{dec_lt, ℕ_discrete}
-use Rattle.isa.specs.Fields.{field_o, field_b, bits11to10}
+use Rattle.isa.specs.Fields.{field_o, field_b}
 use Rattle.table.specs.Table.{place_of, word_of}
 use Rattle.table.proofs.Table.{place_O, place_B, place_B_undefined, place_C, place_C_undefined, place_D, place_E, place_F, word_O, word_B, word_C, word_D, word_E, word_F}
 

@@ -1,8 +1,8 @@
 -- The theorems of specs/Theorems.antt. Assumes nothing.
 use mathlib.Core.Path.{◌≡◌, refl, sym, ap, ap₂, ◌∙◌}
-use mathlib.Core.Logic.{◌⊎◌, inl, inr, ⊎_elim}
-use mathlib.Core.Bool.{Bool, true, false, cond, ◌&&◌, ◌||◌}
-use Prim.Native.Nat.{ℕ, ◌+◌, ◌*◌, ◌/◌, ◌%◌, ◌≤◌, ◌<◌}
+use mathlib.Core.Logic.{inl, inr, ⊎_elim}
+use mathlib.Core.Bool.{◌&&◌, ◌||◌}
+use Prim.Native.Nat.{ℕ, ◌+◌, ◌*◌, ◌<◌}
 use native.Mathlib.Omega.{arith}
 use lib.Dec.{eqb, leb, lit<}
 use borrow.Author.Tests.{le-leb, lt-leb, ne_eqb}
@@ -10,7 +10,6 @@ use Rattle.words.specs.Arithmetic.{bit}
 use Rattle.isa.specs.Fields.{field_o, field_b, bits11to10}
 use Rattle.table.specs.Table.{table, place_of, kind_of, entry}
 use Rattle.table.specs.Theorems.{TableEntries, UndefinedExactly, over_digits, how_many, UndefinedCount}
-use Rattle.isa.specs.declared.Kind.TheVariants.{Undefined}
 use Rattle.table.proofs.Table.{place_O, place_B, place_B_undefined, place_C, place_C_undefined, place_D, place_E, place_F, kind_past}
 use Rattle.table.proofs.Lines.{by_line}
 use Rattle.table.proofs.Entries.{kind_at, entry_at, entry_kind}

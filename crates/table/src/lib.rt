@@ -1,5 +1,6 @@
 // The instruction table of document 01: which instruction a word is, and the word of each.
 #![tactic(auto)]
+
 ghost use Rattle.std.specs.Prelude.{◌≡◌, ◌<◌};
 ghost use Rattle.table.specs.Table.{place_of, kind_of, binary_entry, constant_entry, unary_entry, condition_rank, jump_entry, call_entry, entry, word_of};
 
@@ -7,6 +8,7 @@ use isa::{BinaryOp, Condition, ConstantOp, Kind, Target, UnaryOp};
 
 // Where a word stands in the table; 40 for an undefined word. The tests are of order: on equality they become a jump through a table, and a
 // run takes longer.
+#[tactic(auto, unfolding(crate::specs::Table::place_of))]
 fn place_of(word: u16) -> u8
     ensures { result ≡ place_of word }
 {
@@ -32,6 +34,7 @@ fn place_of(word: u16) -> u8
 
 // Which instruction a word is: the table, in the order of document 01. It is no constant array, which would be laid out anew at each
 // reading.
+#[tactic(auto, unfolding(crate::specs::Table::kind_of, crate::specs::Table::table))]
 pub fn kind_of(word: u16) -> Kind
     ensures { result ≡ kind_of word }
 {
@@ -173,6 +176,7 @@ pub fn entry_of(kind: Kind) -> u8
 
 // The word of the table's entry at a place, all other fields zero. No entry stands from 40 on: there the answer is F000, which
 // nothing uses.
+#[tactic(auto, unfolding(crate::specs::Table::word_of))]
 pub fn word_of(place: u8) -> u16
     ensures { result ≡ word_of place }
 {
