@@ -1,5 +1,4 @@
 -- Laws that the proofs of `forms` share, and the theorems.
-mod Signed
 mod Displacement
 mod Faults
 pub mod Theorems

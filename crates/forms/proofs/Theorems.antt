@@ -1,6 +1,6 @@
 -- The theorems of specs/Theorems.antt. Assumes nothing.
 use mathlib.Core.Path.{◌≡◌, refl, sym, ap, subst, ◌∙◌}
-use mathlib.Core.Bool.{or_false}
+use mathlib.Core.Bool.{or-false}
 use Prim.Native.Nat.{ℕ, ◌+◌, ◌-◌, ◌*◌, ◌%◌, ◌≤◌, ◌<◌}
 use native.Mathlib.Omega.{arith}
 use lib.Dec.{lit<, lit≤}
@@ -272,22 +272,22 @@ refused_word w n =
 -- the operands that a form lacks are in range
 faults : (f : Form) → fault (parts_of f).1 ≡ out_of_range f
 unfolding fault
-faults (Form.Binary op t a b) = simp or_false
-faults (Form.Constant op t k) = simp or_false
-faults (Form.Ld t a b) = simp or_false
-faults (Form.St t a b) = simp or_false
-faults (Form.Unary op t a) = simp or_false
+faults (Form.Binary op t a b) = simp or-false
+faults (Form.Constant op t k) = simp or-false
+faults (Form.Ld t a b) = simp or-false
+faults (Form.St t a b) = simp or-false
+faults (Form.Unary op t a) = simp or-false
 faults Form.Nop = refl
 faults Form.Halt = refl
-faults (Form.Ldsp a) = simp or_false
+faults (Form.Ldsp a) = simp or-false
 faults Form.Rts = refl
-faults (Form.Pop t) = simp or_false
-faults (Form.Push t) = simp or_false
-faults (Form.JumpRelative c a) = simp or_false
-faults (Form.JumpAbsolute c a) = simp or_false
-faults (Form.CallRelative a) = simp or_false
-faults (Form.CallAbsolute a) = simp or_false
-faults (Form.JumpDisplaced c d) = or_false (no_short d)
+faults (Form.Pop t) = simp or-false
+faults (Form.Push t) = simp or-false
+faults (Form.JumpRelative c a) = simp or-false
+faults (Form.JumpAbsolute c a) = simp or-false
+faults (Form.CallRelative a) = simp or-false
+faults (Form.CallAbsolute a) = simp or-false
+faults (Form.JumpDisplaced c d) = or-false (no_short d)
 faults (Form.CallDisplaced d) = refl
 
 pub refused_form : RefusedForm

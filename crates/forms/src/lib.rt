@@ -1,5 +1,6 @@
 // Instruction words and forms: word to form and form to word, by the table of `table`.
 #![tactic(auto)]
+
 ghost use Rattle.std.specs.Prelude.{◌≡◌, ◌%◌};
 ghost use Rattle.forms.specs.Answers.{form_answer, word_answer};
 ghost use Rattle.forms.specs.Operands.{signed, unsigned, operands_of, outside, fault, placed};
@@ -47,7 +48,7 @@ pub enum WordAnswer {
 }
 
 // All operands that there are: t, a, b, k, d10, d12.
-#[derive(Drop)]
+#[derive(Clone, Copy)]
 pub struct Operands(pub u8, pub u8, pub u8, pub u16, pub i16, pub i16);
 
 // A form taken apart: where its instruction stands in the table, and its operands, those that it lacks zero.
@@ -72,6 +73,7 @@ pub fn unsigned_of(d: i16) -> u16
     if d < 0 { 65535 - (!d) as u16 } else { d as u16 }
 }
 
+#[tactic(auto, unfolding(crate::specs::Operands::operands_of))]
 fn operands_of(word: u16) -> Operands
     ensures { result ≡ operands_of word }
 {
@@ -156,6 +158,7 @@ fn form_with(kind: Kind, x: Operands) -> FormAnswer
 }
 
 // Word to form: the form, or number 6.
+#[tactic(auto, unfolding(crate::specs::Reading::word_to_form))]
 pub fn word_to_form(word: u16) -> FormAnswer
     ensures { form_answer result ≡ word_to_form word }
 {
@@ -168,6 +171,7 @@ fn is_outside(least: i16, most: i16, d: i16) -> bool
     if d < least { true } else { most < d }
 }
 
+#[tactic(auto, unfolding(crate::specs::Operands::fault))]
 fn has_fault(x: Operands) -> bool
     ensures { result ≡ fault x }
 {
@@ -189,6 +193,7 @@ fn has_fault(x: Operands) -> bool
     is_outside(-2048, 2047, x.5)
 }
 
+#[tactic(auto, unfolding(crate::specs::Operands::placed))]
 fn placed_of(x: Operands) -> u16
     ensures { result ≡ placed x % 65536 }
 {
@@ -203,6 +208,7 @@ fn placed_of(x: Operands) -> u16
     (sum % 65536) as u16
 }
 
+#[tactic(auto, unfolding(crate::specs::Writing::written_at))]
 fn write(entry: u8, x: Operands) -> WordAnswer
     ensures { word_answer result ≡ written_at entry x }
 {
@@ -256,6 +262,7 @@ pub fn parts_of(form: Form) -> Parts
 }
 
 // Form to word: the word, its unused fields zero, or number 5.
+#[tactic(auto, unfolding(crate::specs::Writing::form_to_word))]
 pub fn form_to_word(form: Form) -> WordAnswer
     ensures { word_answer result ≡ form_to_word form }
 {
