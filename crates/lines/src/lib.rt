@@ -17,7 +17,7 @@ const SPACE: u8 = b' ';
 const SEMICOLON: u8 = b';';
 
 // What one line says.
-#[derive(Drop)]
+#[derive(Clone, Copy)]
 pub enum Line {
     // Spaces or none: skipped.
     Blank,
