@@ -1,5 +1,6 @@
 // A listing checked, and stored into a lent memory: all lines are checked before a word is written.
 #![tactic(auto)]
+
 ghost use Rattle.std.specs.Prelude.{◌≡◌, length};
 ghost use Rattle.lines.specs.Lines.{lines};
 ghost use Rattle.listing.specs.Answers.{fault_number, store_answer};
