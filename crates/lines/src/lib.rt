@@ -26,7 +26,7 @@ pub enum Line {
 }
 
 // What the line reader answers: what the line says, and how many bytes it has, the LF not counted.
-#[derive(Drop)]
+#[derive(Clone, Copy)]
 pub struct Read {
     pub line: Line,
     pub length: usize,
