@@ -2,7 +2,7 @@
 -- run has them (`EveryMoment`); and so do calls of the code, made one after the other (`EveryListMade`, by the contracts of the functions:
 -- `ContractsKept`, `NothingAsked`). Five statements, proved in proofs/Theorem.antt and proofs/Made.antt.
 use Rattle.std.specs.Prelude.{◌≡◌, true, List, map, ℕ, ◌+◌, ◌≤◌, length}
-use Rattle.std.specs.Borrow.{Bor}
+use Rattle.std.specs.Borrow.{Bor, MutBor}
 use Rattle.r8_core.specs.Cores.{visible_of, fresh_core}
 use Rattle.r8_core.specs.Spent.{spent_of, due_in_range}
 use Rattle.r8_core.specs.Progress.{Progress, starting, cycles_on}
@@ -160,7 +160,7 @@ EveryListMade =
 -- of the references (κ), the arguments, the result, and the arguments again, at exit, when the lent memory M has become M'
 abbrev pub ContractsKept : Type 0
 ContractsKept =
-    (c next : Core) (text M M' : Bor (List ℕ)) (b : ℕ) (l : LoadReply) (r : RunReply) (v : ViewReply) (κ κ' : List ℕ)
+    (c next : Core) (text : Bor (List ℕ)) (M M' : MutBor (List ℕ)) (b : ℕ) (l : LoadReply) (r : RunReply) (v : ViewReply) (κ κ' : List ℕ)
     → (contract-of-fresh.Learnt tt tt next tt → next ≡ fresh_core)
     × (contract-of-reset.Learnt tt (c, tt) next (c, tt) → Kept reset next c M.now)
     × (contract-of-load.Learnt (κ, (κ', tt)) (c, (text, (M, tt))) l (c, (text, (M', tt))) → Kept (load text.now) (l, M'.now) c M.now)
@@ -171,7 +171,7 @@ ContractsKept =
 -- and they ask nothing of their callers: `Asked` is what the `requires` come to (proved as `nothing_asked`)
 abbrev pub NothingAsked : Type 0
 NothingAsked =
-    (c : Core) (text M : Bor (List ℕ)) (b : ℕ) (κ κ' : List ℕ)
+    (c : Core) (text : Bor (List ℕ)) (M : MutBor (List ℕ)) (b : ℕ) (κ κ' : List ℕ)
     → contract-of-fresh.Asked tt tt
     × contract-of-reset.Asked tt (c, tt)
     × contract-of-load.Asked (κ, (κ', tt)) (c, (text, (M, tt)))
