@@ -1,6 +1,7 @@
 // The line reader of a listing, and the comment call. A line is four hexadecimal digits (an address), one space, four digits (a word),
 // spaces or none, then nothing or `;` and a comment; or it is spaces or none, and says nothing. An LF or the end of the listing ends it.
 #![tactic(auto)]
+
 ghost use Rattle.std.specs.Prelude.{◌≡◌, ◌+◌, ◌≤◌, min, length, drop};
 ghost use Rattle.hexadecimal.specs.Digits.{digit_value};
 ghost use Rattle.lines.specs.Lines.{first_line, after_spaces, ends, four_digits, number_at, read_line};
@@ -16,7 +17,7 @@ const SPACE: u8 = b' ';
 const SEMICOLON: u8 = b';';
 
 // What one line says.
-#[derive(Drop)]
+#[derive(Clone, Copy)]
 pub enum Line {
     // Spaces or none: skipped.
     Blank,
@@ -25,13 +26,14 @@ pub enum Line {
 }
 
 // What the line reader answers: what the line says, and how many bytes it has, the LF not counted.
-#[derive(Drop)]
+#[derive(Clone, Copy)]
 pub struct Read {
     pub line: Line,
     pub length: usize,
 }
 
 // The value of a hexadecimal digit, in either case; 16 for a byte that is no digit.
+#[tactic(auto, unfolding(hexadecimal::specs::Digits::digit_value))]
 fn digit(b: u8) -> u8
     ensures { result ≡ digit_value b }
 {
@@ -50,6 +52,7 @@ fn digit(b: u8) -> u8
 
 // The number that four digits write, given their values, the first the highest; 65,536, which is above every word, where one of the values
 // is no digit's.
+#[tactic(auto, unfolding(crate::specs::Lines::four_digits))]
 fn number(a: u8, b: u8, c: u8, d: u8) -> u32
     ensures { result ≡ four_digits a b c d }
 {
@@ -71,6 +74,7 @@ fn after_spaces(s: &[u8]) -> &[u8]
 }
 
 // Whether a line may end so: spaces or none, then nothing or `;` and a comment.
+#[tactic(auto, using(crate::proofs::Places::ends_at_end, crate::proofs::Places::ends_by_byte))]
 pub fn line_ends(s: &[u8]) -> bool
     ensures { result ≡ ends s.now }
 {
@@ -79,6 +83,7 @@ pub fn line_ends(s: &[u8]) -> bool
 }
 
 // The address of a line, at its places 0 to 3.
+#[tactic(auto, unfolding(crate::specs::Lines::number_at))]
 fn address_of(text: &[u8]) -> u32
     requires { 4 ≤ length text.now }
     ensures { result ≡ number_at text.now 0 }
@@ -92,6 +97,7 @@ fn address_of(text: &[u8]) -> u32
 }
 
 // The word of a line, at its places 5 to 8.
+#[tactic(auto, unfolding(crate::specs::Lines::number_at))]
 fn word_of(text: &[u8]) -> u32
     requires { 9 ≤ length text.now }
     ensures { result ≡ number_at text.now 5 }
@@ -133,6 +139,7 @@ pub fn line_length(rest: &[u8]) -> usize
 }
 
 // The line at the front, without the LF.
+#[tactic(auto, using(crate::proofs::Places::first_length))]
 fn first_line(s: &[u8]) -> &[u8]
     ensures text { result.now ≡ first_line s.now }
     ensures place { result.ref_ptr ≡ s.entry.ref_ptr }
@@ -154,6 +161,7 @@ pub fn read_line(rest: &[u8]) -> Read
 }
 
 // The number that the first four bytes write in hexadecimal; 65,536 where they are not four digits, or there are fewer.
+#[tactic(auto, using(crate::proofs::Places::no_four))]
 pub fn front_number(text: &[u8]) -> u32
     ensures { result ≡ number_at text.now 0 }
 {

@@ -1,5 +1,6 @@
 // A listing checked, and stored into a lent memory: all lines are checked before a word is written.
 #![tactic(auto)]
+
 ghost use Rattle.std.specs.Prelude.{◌≡◌, length};
 ghost use Rattle.lines.specs.Lines.{lines};
 ghost use Rattle.listing.specs.Answers.{fault_number, store_answer};
@@ -9,21 +10,21 @@ ghost use Rattle.listing.specs.Listing.{lowest_after, address_fault, fault_of, w
 use lines::Line;
 
 // What is wrong with a line.
-#[derive(Drop)]
+#[derive(Clone, Copy)]
 pub enum Fault {
     IllFormed,
     NotAbove,
     PastEnd,
 }
 
-#[derive(Drop)]
+#[derive(Clone, Copy)]
 enum Verdict {
     Passed,
     Failed(Fault),
 }
 
 // How many words were stored; or the first fault and the offset of its line's start.
-#[derive(Drop)]
+#[derive(Clone, Copy)]
 pub enum StoreAnswer {
     Stored(usize),
     Refused(Fault, usize),

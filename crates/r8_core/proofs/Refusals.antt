@@ -20,7 +20,7 @@ use Rattle.effects.specs.declared.Stop.TheVariants.{Going, Halted, Undefined}
 use Rattle.r8_core.specs.Spent.{due_one, due_in_range}
 use Rattle.r8_core.specs.Numbers.{is_going, clock_full, load_number, run_number, step_number, view_number}
 use Rattle.r8_core.specs.Progress.{starting, cycles_on}
-use Rattle.r8_core.specs.Calls.{Answer, refused_at, stored, ran, viewed, refused, Reply, unless, load_answer, loaded_reply, viewed_reply, ran_reply, stepped_reply, reset, load, view, run, step}
+use Rattle.r8_core.specs.Calls.{Answer, refused_at, ran, viewed, refused, Reply, unless, load_answer, loaded_reply, viewed_reply, ran_reply, stepped_reply, reset, load, view, run, step}
 use Rattle.r8_core.specs.TheoremsOfCalls.{load_numbers, run_numbers, step_numbers, view_numbers, NumbersExactly, RefusalsUnchanged}
 use Rattle.r8_core.specs.Cores.{Visible, visible_of}
 use Rattle.r8_core.specs.Instruction.{takes, step_transition}

@@ -2,6 +2,7 @@
 // instructions where the budget has room for them; step is one instruction. No call asks anything of its caller: what does not fit is refused
 // and changes nothing. In a contract `self` is the core as it was handed in, whatever becomes of it.
 #![tactic(auto)]
+
 ghost use Rattle.std.specs.Prelude.{◌≡◌, true, false, cond, ◌+◌, ◌≤◌, ◌<◌, ltb, set};
 ghost use Rattle.words.specs.Arithmetic.{bit};
 ghost use Rattle.refusals.specs.Refusals.{refusal_number};
@@ -30,12 +31,12 @@ use refusals::{Refusal, Verdict};
 const LONGEST: u32 = 4;
 
 // A number of instructions, which no addition joins with a number of cycles.
-#[derive(Drop)]
+#[derive(Clone, Copy)]
 pub struct Instructions(pub u32);
 
 // The core. `due` is the cycle due next, 1 to 4 on every core that calls make of a fresh one. A core is written out in `fresh` and `with_stop`
 // alone.
-#[derive(Drop)]
+#[derive(Clone, Copy)]
 pub struct Core {
     pub regs: [u16; 16],
     pub pc: u16,
@@ -48,7 +49,7 @@ pub struct Core {
 }
 
 // A core after a cycle (or after none), whether that finished an instruction, and the store that is to be made, if any.
-#[derive(Drop)]
+#[derive(Clone, Copy)]
 pub struct Transition {
     pub core: Core,
     pub finished: bool,
@@ -57,7 +58,7 @@ pub struct Transition {
 
 // What whole instructions change of a core with cycle 1 due, but for its bank of registers and its clock, and what is left of the budget that
 // they spend. They are executed on bank and state apart, so that none of them copies the bank.
-#[derive(Drop)]
+#[derive(Clone, Copy)]
 struct Working {
     pc: u16,
     sp: u16,
@@ -68,7 +69,7 @@ struct Working {
 }
 
 // A core some cycles on, how many they are, and how many instructions they finished.
-#[derive(Drop)]
+#[derive(Clone, Copy)]
 struct Moved {
     core: Core,
     cycles: Cycles,
@@ -76,7 +77,7 @@ struct Moved {
 }
 
 // How a run or a step ends: H halted, U undefined, B with cycle 1 due, M in the middle of an instruction.
-#[derive(Drop)]
+#[derive(Clone, Copy)]
 pub enum End {
     H,
     U,
@@ -85,7 +86,7 @@ pub enum End {
 }
 
 // How many words a load stored; or why it did not start; or the first fault of the listing and the offset of its line's start.
-#[derive(Drop)]
+#[derive(Clone, Copy)]
 pub enum LoadAnswer {
     Stored(usize),
     Refused(Refusal),
@@ -93,7 +94,7 @@ pub enum LoadAnswer {
 }
 
 // What a run or a step answers.
-#[derive(Drop)]
+#[derive(Clone, Copy)]
 pub enum RunAnswer {
     Ran {
         cycles: Cycles,
@@ -104,14 +105,14 @@ pub enum RunAnswer {
 }
 
 // A view answers its number, or that the snapshot beside it holds.
-#[derive(Drop)]
+#[derive(Clone, Copy)]
 pub enum ViewAnswer {
     Viewed,
     Refused(Refusal),
 }
 
 // All of a core but its hidden registers.
-#[derive(Drop)]
+#[derive(Clone, Copy)]
 pub struct Snapshot {
     pub regs: [u16; 16],
     pub pc: u16,
@@ -124,20 +125,20 @@ pub struct Snapshot {
 
 // What a call gives back: the next core and the answer. An enum cannot hold a bank of registers, so the core stands beside the answer, and
 // so does what a view shows.
-#[derive(Drop)]
+#[derive(Clone, Copy)]
 pub struct LoadReply {
     pub core: Core,
     pub answer: LoadAnswer,
 }
 
-#[derive(Drop)]
+#[derive(Clone, Copy)]
 pub struct RunReply {
     pub core: Core,
     pub answer: RunAnswer,
 }
 
 // A refused view answers its number alone. The papers leave free what the snapshot then holds: it is that of a fresh core.
-#[derive(Drop)]
+#[derive(Clone, Copy)]
 pub struct ViewReply {
     pub core: Core,
     pub answer: ViewAnswer,
@@ -513,6 +514,7 @@ impl Core {
     }
 
     // One cycle of a core with cycle 2, 3 or 4 due; with another number due nothing happens (run refuses all but 1 to 4).
+    #[tactic(auto, unfolding(crate::specs::Datapath::later_cycle))]
     fn later_cycle(self, kind: Kind, memory: &[u16]) -> Transition
         requires { self.clock.0 < 4294967295 }
         ensures { result ≡ later_cycle kind memory.now self }
@@ -547,6 +549,7 @@ impl Core {
 
     // The datapath engine: one cycle, for every core. One whose clock is full, or whose cycle due is none of 1 to 4, is handed back as it is. The
     // store is the caller's to make; whether the core is going is the caller's to ask.
+    #[tactic(auto, unfolding(crate::specs::Datapath::cycle_or_idle))]
     pub fn cycle(self, memory: &[u16]) -> Transition
         ensures { result ≡ cycle_or_idle memory.now self }
     {
@@ -558,6 +561,7 @@ impl Core {
     }
 
     // The cycle due, where the clock has room for it.
+    #[tactic(auto, unfolding(crate::specs::Datapath::due_cycle))]
     fn due_cycle(self, memory: &[u16]) -> Transition
         requires { self.clock.0 < 4294967295 }
         ensures { result ≡ due_cycle memory.now self }
@@ -569,6 +573,7 @@ impl Core {
     }
 
     // One cycle, its store made.
+    #[tactic(auto, unfolding(crate::specs::Progress::cycle_on, crate::specs::Datapath::due_cycle))]
     fn cycle_on(self, memory: &mut [u16]) -> Moved
         requires { self.clock.0 < 4294967295 }
         ensures { reached result memory.new ≡ cycle_on (starting self memory.old) }
@@ -752,6 +757,7 @@ impl Core {
     }
 
     // A fresh core for this one.
+    #[tactic(auto, unfolding(crate::specs::Calls::reset))]
     pub fn reset(mut self) -> Core
         ensures { reset_gave result ≡ reset self }
     {
@@ -760,6 +766,7 @@ impl Core {
     }
 
     // A listing, checked and stored.
+    #[tactic(auto, unfolding(crate::specs::Calls::load))]
     pub fn load(self, text: &[u8], memory: &mut [u16]) -> LoadReply
         ensures { load_gave result memory.new ≡ load text.now self memory.old }
     {
@@ -817,6 +824,7 @@ impl Core {
     }
 
     // All but the hidden registers; where it is refused, the snapshot is that of a fresh core.
+    #[tactic(auto, unfolding(crate::specs::Calls::view))]
     pub fn view(self) -> ViewReply
         ensures reply { view_gave result ≡ view self }
         ensures snapshot { result.snapshot ≡ shown (cond (due_one self) self fresh_core) }

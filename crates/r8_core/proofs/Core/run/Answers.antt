@@ -1,0 +1,87 @@
+use Rattle.std.proofs.Common.{◌≡◌, ℕ, ◌-◌, Bool, length, sym, ap, ◌∙◌, arith}
+use Rattle.refusals.specs.Verdicts.{verdict_number}
+use Rattle.r8_core.specs.Numbers.{run_number}
+use Rattle.r8_core.specs.Calls.{ran_reply, run}
+use Rattle.r8_core.specs.Progress.{cycles_on}
+use Rattle.r8_core.proofs.Refusals.{ready}
+use Rattle.r8_core.proofs.Cycles.{none_more}
+use Rattle.r8_core.proofs.Replies.{refused_reply, run_starts, run_over}
+use Rattle.r8_core.proofs.WholeInstructions.{onward}
+use Rattle.r8_core.proofs.Core.run.Invariants.{progress}
+use Rattle.r8_core.proofs.Core.run.Goals as goal
+use Rattle.r8_core.proofs.Core.run.Goals.{then-loop-used-test+else-goes, else-loop-used-test}
+
+pub returns-in-Refused : goal.returns-in-Refused
+unfolding run
+returns-in-Refused c =
+    let a = c.args in
+    let at : Bool → ℕ = λ ready. run_number (length a.memory.now) a.self.stop ready a.self.clock.0 a.b in
+    let number = c.run_verdict-verdict.ensures ∙ ap at c.due_in_range.ensures in
+    let refused = c.run_refused.ensures in
+    (λ j. record { answer = refused.1 j; core = refused.0 j; memory = a.memory.now })
+    ∙ refused_reply _ c.in-Refused.why a.self a.memory.now _ (sym (ap verdict_number c.in-Refused.is) ∙ number)
+
+pub loop-used-init : goal.loop-used-init
+loop-used-init c =
+    let a = c.args in
+    let at : Bool → ℕ = λ ready. run_number (length a.memory.now) a.self.stop ready a.self.clock.0 a.b in
+    let number = c.run_verdict-verdict.ensures ∙ ap at c.due_in_range.ensures in
+    let none = sym number ∙ ap verdict_number c.in_default.is in
+    let ready = ready _ _ _ _ _ none in
+    record {
+      left = run_starts a.b a.self a.memory.now none;
+      few = omega arith;
+      within = omega arith;
+      room = omega (arith, ready.room);
+      due = ready.due;
+    }
+
+pub overflow_add-used : goal.overflow_add-used
+overflow_add-used c =
+    let l = c.loop-used in
+    let on =
+    onward _ (progress l.self l.memory l.used.0 l.finished.0) _ (sym c.goes.ensures ∙ c.if-goes.true)
+    c.loop-used-test.true l.invariant.due c.instructions_or_cycle-moved.ensures in
+    omega (arith, on.below, on.most)
+
+pub overflow_add-finished : goal.overflow_add-finished
+overflow_add-finished c =
+    let l = c.loop-used in
+    let on =
+    onward _ (progress l.self l.memory l.used.0 l.finished.0) _ (sym c.goes.ensures ∙ c.if-goes.true)
+    c.loop-used-test.true l.invariant.due c.instructions_or_cycle-moved.ensures in
+    omega (arith, on.below, on.most, on.few, l.invariant.few)
+
+pub loop-used-smaller : goal.loop-used-smaller
+loop-used-smaller c =
+    let l = c.loop-used in
+    let on =
+    onward _ (progress l.self l.memory l.used.0 l.finished.0) _ (sym c.goes.ensures ∙ c.if-goes.true)
+    c.loop-used-test.true l.invariant.due c.instructions_or_cycle-moved.ensures in
+    omega (arith, on.below, on.some)
+
+pub loop-used-preserved : goal.loop-used-preserved
+loop-used-preserved c =
+    let l = c.loop-used in
+    let on =
+    onward _ (progress l.self l.memory l.used.0 l.finished.0) _ (sym c.goes.ensures ∙ c.if-goes.true)
+    c.loop-used-test.true l.invariant.due c.instructions_or_cycle-moved.ensures in
+    record {
+      left = l.invariant.left ∙ ap ran_reply on.left;
+      few = omega (arith, on.few, l.invariant.few);
+      within = omega (arith, on.below, on.most);
+      room = omega (arith, on.below, on.most, on.clock, l.invariant.room);
+      due = on.due;
+    }
+
+pub returns : goal.returns
+returns c =
+    let l = c.loop-used in
+    let p = progress l.self l.memory l.used.0 l.finished.0 in
+    let over : cycles_on (c.args.b - l.used.0) p ≡ p =
+    elim c.loop-used-test.branch [
+      | then-loop-used-test+else-goes w ↦ none_more _ p (sym w.goes.ensures ∙ w.if-goes.false)
+      | else-loop-used-test w ↦ run_over _ p w.loop-used-test.false
+    ] in
+    let ended = c.ran.ensures in
+    (λ j. record { answer = ended.1 j; core = ended.0 j; memory = l.memory }) ∙ sym (l.invariant.left ∙ ap ran_reply over)

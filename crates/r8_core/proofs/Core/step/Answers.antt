@@ -1,0 +1,44 @@
+use Rattle.std.proofs.Common.{ℕ, Bool, length, sym, ap, ◌∙◌}
+use Rattle.refusals.specs.Verdicts.{verdict_number}
+use Rattle.effects.specs.Hidden.{no_hidden}
+use Rattle.r8_core.specs.Cores.{with_hidden}
+use Rattle.r8_core.specs.Spent.{due_one}
+use Rattle.r8_core.specs.Numbers.{longest, run_number, step_number}
+use Rattle.r8_core.specs.Calls.{ran, step, end_of}
+use Rattle.r8_core.proofs.Refusals.{ready}
+use Rattle.r8_core.proofs.Replies.{refused_reply, step_starts}
+use Rattle.r8_core.proofs.WholeInstructions.{just_one, as_step}
+use Rattle.r8_core.proofs.Core.step.Goals as goal
+
+pub returns-in-Refused : goal.returns-in-Refused
+unfolding step step_number
+returns-in-Refused c =
+    let a = c.args in
+    let at : Bool → ℕ = λ ready. run_number (length a.memory.now) a.self.stop ready a.self.clock.0 longest in
+    let number = c.run_verdict-verdict.ensures ∙ ap at c.one_due.ensures in
+    let refused = c.run_refused.ensures in
+    (λ j. record { answer = refused.1 j; core = refused.0 j; memory = a.memory.now })
+    ∙ refused_reply _ c.in-Refused.why a.self a.memory.now _ (sym (ap verdict_number c.in-Refused.is) ∙ number)
+
+pub instructions-one-requires : goal.instructions-one-requires
+instructions-one-requires c =
+    let a = c.args in
+    let at : Bool → ℕ = λ ready. run_number (length a.memory.now) a.self.stop ready a.self.clock.0 longest in
+    let number = c.run_verdict-verdict.ensures ∙ ap at c.one_due.ensures in
+    let ready = ready _ _ _ _ _ (sym number ∙ ap verdict_number c.in_default.is) in
+    (ready.due, ready.room)
+
+pub returns : goal.returns
+returns c =
+    let a = c.args in
+    let at : Bool → ℕ = λ ready. run_number (length a.memory.now) a.self.stop ready a.self.clock.0 longest in
+    let number = c.run_verdict-verdict.ensures ∙ ap at c.one_due.ensures in
+    let none = sym number ∙ ap verdict_number c.in_default.is in
+    let going = (ready _ _ _ _ _ none).going in
+    let one = c.instructions-one.ensures ∙ just_one a.self a.memory.now going in
+    let core = c.without_hidden.ensures ∙ (λ j. with_hidden no_hidden (one j).core) in
+    let next = c.ran.ensures.0 ∙ core in
+    let answer = c.ran.ensures.1 ∙ (λ j. ran (one j).used (one j).finished (end_of (core j).stop (due_one (core j)))) in
+    (λ j. record { answer = answer j; core = next j; memory = (one j).memory })
+    ∙ as_step a.self a.memory.now
+    ∙ sym (step_starts a.self a.memory.now none)
