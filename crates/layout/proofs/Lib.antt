@@ -1,6 +1,5 @@
 -- Laws about the layout of answers, and its theorems.
 pub mod Sizes
-pub mod Replies
 pub mod Onto
 pub mod Back
 pub mod Theorems

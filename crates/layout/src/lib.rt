@@ -1,5 +1,6 @@
 // The calls with their answers laid out as numbers: 23 for each, the case first, then what it names, then zeros.
 #![tactic(auto)]
+
 ghost use Rattle.std.specs.Prelude.{◌≡◌, List, [], ◌∷◌, ℕ, ◌≤◌};
 ghost use Rattle.words.specs.Arithmetic.{bit};
 ghost use Rattle.r8_core.specs.Calls.{done, refused, reset, load, run, step, view};
@@ -79,18 +80,21 @@ fn four(a: u64, b: u64, c: u64, d: u64) -> [u64; 23]
 }
 
 // What a reset answers.
+#[tactic(auto, unfolding(crate::specs::Layout::answer_numbers))]
 pub fn done_numbers() -> [u64; 23]
     ensures { result ≡ answer_numbers done }
 {
     four(0, 0, 0, 0)
 }
 
+#[tactic(auto, unfolding(crate::specs::Layout::answer_numbers))]
 fn refused_numbers(why: Refusal) -> [u64; 23]
     ensures { result ≡ answer_numbers (refused (refusal_number why)) }
 {
     four(4, refusals::number(why) as u64, 0, 0)
 }
 
+#[tactic(auto, unfolding(crate::specs::Layout::answer_numbers))]
 pub fn load_numbers(answer: LoadAnswer) -> [u64; 23]
     ensures { result ≡ answer_numbers (load_answer_of answer) }
 {
@@ -107,6 +111,7 @@ pub fn load_numbers(answer: LoadAnswer) -> [u64; 23]
 }
 
 // What a run or a step answers.
+#[tactic(auto, unfolding(crate::specs::Layout::answer_numbers))]
 pub fn run_numbers(answer: RunAnswer) -> [u64; 23]
     ensures { result ≡ answer_numbers (run_answer_of answer) }
 {
@@ -172,6 +177,7 @@ fn seen_numbers(kind: u64, s: Snapshot) -> [u64; 23]
     ]
 }
 
+#[tactic(auto, unfolding(crate::specs::Layout::answer_numbers))]
 pub fn view_numbers(answer: ViewAnswer, snapshot: Snapshot) -> [u64; 23]
     ensures { result ≡ answer_numbers (view_answer_of answer snapshot) }
 {

@@ -1,5 +1,6 @@
 // How numbers, flags, end letters and the lines of a trace are written.
 #![tactic(auto)]
+
 ghost use Rattle.std.specs.Prelude.{◌≡◌};
 ghost use Rattle.text.specs.Decimal.{last_digit, decimal_text, at_end};
 ghost use Rattle.text.specs.Text.{bit_text, flags_text, line_text, letter_text};
