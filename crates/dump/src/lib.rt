@@ -1,5 +1,6 @@
 // Listings back out of memory: words of a lent memory, written as lines of a listing into a lent text. No core is taken.
 #![tactic(auto)]
+
 ghost use Rattle.std.specs.Prelude.{◌≡◌, ◌++◌, ◌+◌, ◌*◌, ◌≤◌, length, drop};
 ghost use Rattle.std.proofs.lemmas.List.Edits.{sets};
 ghost use Rattle.hexadecimal.specs.Digits.{word_text};
@@ -65,6 +66,7 @@ fn put_lines(memory: &[u16], first: usize, count: usize, text: &mut [u8])
 
 // Words of the memory, count of them from the address first on, as listing lines from the text's first byte on; what is past them stays.
 // Refused with 1, 4 or 10, the first that applies, it leaves the text as it was.
+#[tactic(auto, unfolding(crate::specs::Dump::dumped, crate::specs::Dump::dump_number, refusals::specs::Refusals::first_number))]
 pub fn listing(memory: &[u16], first: usize, count: usize, text: &mut [u8]) -> DumpAnswer
     ensures { dump_gave result text.new ≡ dumped memory.now first count text.old }
 {

@@ -7,7 +7,7 @@ use native.Mathlib.Numerals.{add-one}
 use native.Mathlib.Omega.{arith}
 use borrow.Author.Tests.{ltb-true, lt-ltb}
 use lib.Dec.{ltb}
-use lib.ListN.{length, take, drop, set, get_or, length-set, take-append-drop}
+use lib.ListN.{length, take, set, get_or, length-set, take-append-drop}
 use lib.Seq.{take-suc, take-suc-set, append_snoc, drop-set-lt}
 use Rattle.output.specs.Page.{Page, page_at, put_byte, put_on}
 use Rattle.output.specs.Theorems.{PutWhole}

@@ -1,5 +1,6 @@
 // A lent page that is filled with text. A place is where the next byte goes; a byte that would go past the page's end is lost.
 #![tactic(auto)]
+
 ghost use Rattle.std.specs.Prelude.{◌≡◌, ◌++◌};
 ghost use Rattle.hexadecimal.specs.Digits.{word_text};
 ghost use Rattle.text.specs.Decimal.{decimal_text};
@@ -38,6 +39,7 @@ pub fn put_number(page: &mut [u8], from: usize, name: &[u8], n: u64) -> usize
 }
 
 // Text, then a word in hexadecimal.
+#[tactic(auto, using(crate::proofs::Stores::put_both))]
 pub fn put_word(page: &mut [u8], from: usize, name: &[u8], word: u16) -> usize
     ensures { page_at page.new result ≡ put_on (page_at page.old from) (name.now ++ word_text word) }
 {

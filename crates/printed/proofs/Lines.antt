@@ -8,7 +8,7 @@ use lib.Dec.{ltb}
 use lib.ListN.{length, drop, get_or, replicate}
 use lib.Seq.{drop-drop, get_or-drop}
 use Rattle.words.specs.Memory.{word_at}
-use Rattle.hexadecimal.specs.Digits.{hex_digit, word_text}
+use Rattle.hexadecimal.specs.Digits.{word_text}
 use Rattle.isa.specs.declared.Flags.{Flags}
 use Rattle.r8_core.specs.Calls.{step}
 use Rattle.text.specs.Text.{flags_text, line_text}

@@ -1,5 +1,6 @@
 // What r8trace writes of a listing, byte by byte, on a lent page.
 #![tactic(auto)]
+
 ghost use Rattle.std.specs.Prelude.{◌≡◌, ◌+◌, ◌*◌, ◌≤◌, drop};
 ghost use Rattle.listing.specs.Answers.{fault_number};
 ghost use Rattle.r8_core.specs.Calls.{ran};

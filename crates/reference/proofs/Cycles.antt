@@ -32,8 +32,8 @@ use Rattle.r8_core.specs.Datapath.{fetched, second, with_result, third, with_eff
 use Rattle.r8_core.specs.declared.Core.{Core}
 use Rattle.r8_core.specs.declared.Transition.{Transition}
 use Rattle.r8_core.proofs.Cycles.{within_clock, first_cycle, later, second_cycle, third_cycle, fourth_cycle}
-use Rattle.reference.specs.Notation.{word, k, d10, ◌⊕◌, added, subtracted, NZ, plain}
-use Rattle.reference.specs.Cycles.{set_stop, due, ends, R, PC, Ra, RB, latch, alu, aim, jump, Row, CyclesExactly}
+use Rattle.reference.specs.Notation.{word, k, d10, ◌⊕◌, NZ, plain}
+use Rattle.reference.specs.Cycles.{set_stop, ends, R, PC, Ra, RB, latch, alu, aim, jump, Row, CyclesExactly}
 use Rattle.reference.proofs.Fields as fields
 use Rattle.reference.proofs.Fields.{kind_by}
 use Rattle.reference.proofs.Instructions.{sum_said, difference_said}

@@ -1,5 +1,6 @@
 // The second form of the run call, for a caller that keeps its core in place.
 #![tactic(auto)]
+
 ghost use Rattle.std.specs.Prelude.{◌≡◌};
 ghost use Rattle.r8_core.specs.Calls.{run};
 ghost use Rattle.run_in_place.specs.InPlace.{in_place_gave};

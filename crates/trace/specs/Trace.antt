@@ -1,5 +1,5 @@
 -- Document 01, 'Proof bench', program `r8trace`: what is found of a listing, as numbers.
-use Rattle.std.specs.Prelude.{Bool, true, false, cond, List, [], ◌∷◌, ◌++◌, ℕ, zero, suc, ◌+◌, ◌*◌, ltb, length, drop, replicate}
+use Rattle.std.specs.Prelude.{Bool, true, false, cond, List, [], ◌∷◌, ◌++◌, ℕ, zero, suc, ◌*◌, ltb, length, drop, replicate}
 use Rattle.words.specs.Memory.{word_at}
 use Rattle.listing.specs.Answers.{fault_number}
 use Rattle.r8_core.specs.Cores.{fresh_core}

@@ -1,5 +1,6 @@
 // The trace of a listing, as numbers: what the program r8trace writes as text.
 #![tactic(auto)]
+
 ghost use Rattle.std.specs.Prelude.{◌≡◌, ◌∷◌, [], ◌++◌, ◌+◌, ◌*◌, ◌≤◌, length, take, drop};
 ghost use Rattle.r8_core.specs.Answers.{run_answer_of};
 ghost use Rattle.trace.specs.Trace.{cycles_of, rows_of, traced_on, traced, trace_gave};
