@@ -2,10 +2,12 @@
 // back unchanged, and refused by form to word. Then prints one word of each of the 40 instructions
 // with the name and the operands that its form has; the registers that a form has differ.
 #![tactic(auto)]
+
 ghost use Rattle.std.specs.Prelude.{◌≤◌};
 
 use forms::{Form, FormAnswer, WordAnswer};
 use isa::{BinaryOp, Condition, ConstantOp, UnaryOp};
+use std::io;
 
 // The counts of some words.
 #[derive(Drop)]
@@ -73,174 +75,175 @@ fn count_all() -> Counts {
     }
 }
 
-fn print(text: &[u8]) {
-    io::write_all(1, text);
+fn print(rt: &impl Print, text: &[u8]) -> io::Result<()> {
+    rt.write_all(text)
 }
 
-fn print_count(name: &[u8], count: u32) {
-    print(name);
-    io::print_decimal(1, count as u64);
-    print(b"\n");
+fn print_count(rt: &impl Print, name: &[u8], count: u32) -> io::Result<()> {
+    print(rt, name)?;
+    rt.print(count as u64)?;
+    print(rt, b"\n")
 }
 
-fn print_binary(op: BinaryOp) {
+fn print_binary(rt: &impl Print, op: BinaryOp) -> io::Result<()> {
     match op {
-        BinaryOp::Add => print(b"ADD"),
-        BinaryOp::Sub => print(b"SUB"),
-        BinaryOp::And => print(b"AND"),
-        BinaryOp::Or => print(b"OR"),
-        BinaryOp::Xor => print(b"XOR"),
+        BinaryOp::Add => print(rt, b"ADD"),
+        BinaryOp::Sub => print(rt, b"SUB"),
+        BinaryOp::And => print(rt, b"AND"),
+        BinaryOp::Or => print(rt, b"OR"),
+        BinaryOp::Xor => print(rt, b"XOR"),
     }
 }
 
-fn print_constant(op: ConstantOp) {
+fn print_constant(rt: &impl Print, op: ConstantOp) -> io::Result<()> {
     match op {
-        ConstantOp::Addi => print(b"ADDI"),
-        ConstantOp::Subi => print(b"SUBI"),
-        ConstantOp::Ldl => print(b"LDL"),
-        ConstantOp::Ldh => print(b"LDH"),
+        ConstantOp::Addi => print(rt, b"ADDI"),
+        ConstantOp::Subi => print(rt, b"SUBI"),
+        ConstantOp::Ldl => print(rt, b"LDL"),
+        ConstantOp::Ldh => print(rt, b"LDH"),
     }
 }
 
-fn print_unary(op: UnaryOp) {
+fn print_unary(rt: &impl Print, op: UnaryOp) -> io::Result<()> {
     match op {
-        UnaryOp::Sl0 => print(b"SL0"),
-        UnaryOp::Sl1 => print(b"SL1"),
-        UnaryOp::Sr0 => print(b"SR0"),
-        UnaryOp::Sr1 => print(b"SR1"),
-        UnaryOp::Not => print(b"NOT"),
+        UnaryOp::Sl0 => print(rt, b"SL0"),
+        UnaryOp::Sl1 => print(rt, b"SL1"),
+        UnaryOp::Sr0 => print(rt, b"SR0"),
+        UnaryOp::Sr1 => print(rt, b"SR1"),
+        UnaryOp::Not => print(rt, b"NOT"),
     }
 }
 
 // A jump is JMP, the flag that it goes on, and a letter for its target: JMP, JMPN, JMPR, JMPNR, JMPD, JMPND.
-fn print_jump(condition: Condition, target: &[u8]) {
-    print(b"JMP");
+fn print_jump(rt: &impl Print, condition: Condition, target: &[u8]) -> io::Result<()> {
+    print(rt, b"JMP")?;
     match condition {
         Condition::Always => {}
-        Condition::Negative => print(b"N"),
-        Condition::Zero => print(b"Z"),
-        Condition::Carry => print(b"C"),
-        Condition::Overflow => print(b"V"),
+        Condition::Negative => print(rt, b"N")?,
+        Condition::Zero => print(rt, b"Z")?,
+        Condition::Carry => print(rt, b"C")?,
+        Condition::Overflow => print(rt, b"V")?,
     }
-    print(target);
+    print(rt, target)
 }
 
-fn print_name(form: Form) {
-    match form {
+fn print_name(rt: &impl Print, form: &Form) -> io::Result<()> {
+    match *form {
         Form::Binary {
             op,
             t: _,
             a: _,
             b: _,
-        } => print_binary(op),
-        Form::Constant { op, t: _, k: _ } => print_constant(op),
-        Form::Ld { t: _, a: _, b: _ } => print(b"LD"),
-        Form::St { t: _, a: _, b: _ } => print(b"ST"),
-        Form::Unary { op, t: _, a: _ } => print_unary(op),
-        Form::Nop => print(b"NOP"),
-        Form::Halt => print(b"HALT"),
-        Form::Ldsp { a: _ } => print(b"LDSP"),
-        Form::Rts => print(b"RTS"),
-        Form::Pop { t: _ } => print(b"POP"),
-        Form::Push { t: _ } => print(b"PUSH"),
-        Form::JumpRelative { condition, a: _ } => print_jump(condition, b"R"),
-        Form::JumpAbsolute { condition, a: _ } => print_jump(condition, b""),
-        Form::CallRelative { a: _ } => print(b"JSRR"),
-        Form::CallAbsolute { a: _ } => print(b"JSR"),
-        Form::JumpDisplaced { condition, d10: _ } => print_jump(condition, b"D"),
-        Form::CallDisplaced { d12: _ } => print(b"JSRD"),
+        } => print_binary(rt, op),
+        Form::Constant { op, t: _, k: _ } => print_constant(rt, op),
+        Form::Ld { t: _, a: _, b: _ } => print(rt, b"LD"),
+        Form::St { t: _, a: _, b: _ } => print(rt, b"ST"),
+        Form::Unary { op, t: _, a: _ } => print_unary(rt, op),
+        Form::Nop => print(rt, b"NOP"),
+        Form::Halt => print(rt, b"HALT"),
+        Form::Ldsp { a: _ } => print(rt, b"LDSP"),
+        Form::Rts => print(rt, b"RTS"),
+        Form::Pop { t: _ } => print(rt, b"POP"),
+        Form::Push { t: _ } => print(rt, b"PUSH"),
+        Form::JumpRelative { condition, a: _ } => print_jump(rt, condition, b"R"),
+        Form::JumpAbsolute { condition, a: _ } => print_jump(rt, condition, b""),
+        Form::CallRelative { a: _ } => print(rt, b"JSRR"),
+        Form::CallAbsolute { a: _ } => print(rt, b"JSR"),
+        Form::JumpDisplaced { condition, d10: _ } => print_jump(rt, condition, b"D"),
+        Form::CallDisplaced { d12: _ } => print(rt, b"JSRD"),
     }
 }
 
-fn print_register(name: &[u8], register: u8) {
-    print(name);
-    io::print_decimal(1, register as u64);
+fn print_register(rt: &impl Print, name: &[u8], register: u8) -> io::Result<()> {
+    print(rt, name)?;
+    rt.print(register as u64)
 }
 
-fn print_ta(t: u8, a: u8) {
-    print_register(b" t ", t);
-    print_register(b" a ", a);
+fn print_ta(rt: &impl Print, t: u8, a: u8) -> io::Result<()> {
+    print_register(rt, b" t ", t)?;
+    print_register(rt, b" a ", a)
 }
 
-fn print_tab(t: u8, a: u8, b: u8) {
-    print_ta(t, a);
-    print_register(b" b ", b);
+fn print_tab(rt: &impl Print, t: u8, a: u8, b: u8) -> io::Result<()> {
+    print_ta(rt, t, a)?;
+    print_register(rt, b" b ", b)
 }
 
-fn print_tk(t: u8, k: u16) {
-    print_register(b" t ", t);
-    print(b" k ");
-    io::print_decimal(1, k as u64);
+fn print_tk(rt: &impl Print, t: u8, k: u16) -> io::Result<()> {
+    print_register(rt, b" t ", t)?;
+    print(rt, b" k ")?;
+    rt.print(k as u64)
 }
 
 // A signed number: its bits are those of itself, or of 65,536 more.
-fn print_displacement(name: &[u8], d: i16) {
+fn print_displacement(rt: &impl Print, name: &[u8], d: i16) -> io::Result<()> {
     let bits = forms::unsigned_of(d) as u32;
-    print(name);
+    print(rt, name)?;
     if d < 0 {
-        print(b"-");
-        io::print_decimal(1, (65536 - bits) as u64);
+        print(rt, b"-")?;
+        rt.print((65536 - bits) as u64)
     } else {
-        io::print_decimal(1, bits as u64);
+        rt.print(bits as u64)
     }
 }
 
-fn print_operands(form: Form) {
+fn print_operands(rt: &impl Print, form: Form) -> io::Result<()> {
     match form {
-        Form::Binary { op: _, t, a, b } => print_tab(t, a, b),
-        Form::Constant { op: _, t, k } => print_tk(t, k),
-        Form::Ld { t, a, b } => print_tab(t, a, b),
-        Form::St { t, a, b } => print_tab(t, a, b),
-        Form::Unary { op: _, t, a } => print_ta(t, a),
-        Form::Nop => {}
-        Form::Halt => {}
-        Form::Ldsp { a } => print_register(b" a ", a),
-        Form::Rts => {}
-        Form::Pop { t } => print_register(b" t ", t),
-        Form::Push { t } => print_register(b" t ", t),
-        Form::JumpRelative { condition: _, a } => print_register(b" a ", a),
-        Form::JumpAbsolute { condition: _, a } => print_register(b" a ", a),
-        Form::CallRelative { a } => print_register(b" a ", a),
-        Form::CallAbsolute { a } => print_register(b" a ", a),
-        Form::JumpDisplaced { condition: _, d10 } => print_displacement(b" d10 ", d10),
-        Form::CallDisplaced { d12 } => print_displacement(b" d12 ", d12),
+        Form::Binary { op: _, t, a, b } => print_tab(rt, t, a, b),
+        Form::Constant { op: _, t, k } => print_tk(rt, t, k),
+        Form::Ld { t, a, b } => print_tab(rt, t, a, b),
+        Form::St { t, a, b } => print_tab(rt, t, a, b),
+        Form::Unary { op: _, t, a } => print_ta(rt, t, a),
+        Form::Nop => Ok(()),
+        Form::Halt => Ok(()),
+        Form::Ldsp { a } => print_register(rt, b" a ", a),
+        Form::Rts => Ok(()),
+        Form::Pop { t } => print_register(rt, b" t ", t),
+        Form::Push { t } => print_register(rt, b" t ", t),
+        Form::JumpRelative { condition: _, a } => print_register(rt, b" a ", a),
+        Form::JumpAbsolute { condition: _, a } => print_register(rt, b" a ", a),
+        Form::CallRelative { a } => print_register(rt, b" a ", a),
+        Form::CallAbsolute { a } => print_register(rt, b" a ", a),
+        Form::JumpDisplaced { condition: _, d10 } => print_displacement(rt, b" d10 ", d10),
+        Form::CallDisplaced { d12 } => print_displacement(rt, b" d12 ", d12),
     }
 }
 
 // A word, and the name and operands of its form.
-fn print_word(word: u16) {
-    print(&hexadecimal::word_text(word));
-    print(b" ");
+fn print_word(rt: &impl Print, word: u16) -> io::Result<()> {
+    print(rt, &hexadecimal::word_text(word))?;
+    print(rt, b" ")?;
     let answer = forms::word_to_form(word);
     match answer {
         FormAnswer::Read(form) => {
-            print_name(form);
-            print_operands(form);
+            print_name(rt, &form)?;
+            print_operands(rt, form)?;
         }
-        FormAnswer::Undefined => print(b"undefined"),
+        FormAnswer::Undefined => print(rt, b"undefined")?,
     }
-    print(b"\n");
+    print(rt, b"\n")
 }
 
 // Some words, each `step` after the one before.
-fn print_words(first: u16, step: u16, count: u32) {
+fn print_words(rt: &impl Print, first: u16, step: u16, count: u32) -> io::Result<()> {
     let mut word = first;
     for _ in 0..count {
-        print_word(word);
+        print_word(rt, word)?;
         word = std::num::wrapping_add_u16(word, step);
     }
+    Ok(())
 }
 
-fn main() {
+fn main(rt: HostRuntime) -> io::Result<()> {
     let all = count_all();
-    print_count(b"defined ", all.defined);
-    print_count(b"undefined ", all.undefined);
-    print_count(b"unchanged ", all.unchanged);
-    print_count(b"refused ", all.refused);
-    print_words(0x0123, 0x1000, 11);
-    print_words(0xB120, 1, 11);
-    print_words(0xC120, 1, 12);
-    print_words(0xD3FF, 1, 1);
-    print_words(0xE123, 0x400, 4);
-    print_words(0xF923, 1, 1);
+    print_count(&rt, b"defined ", all.defined)?;
+    print_count(&rt, b"undefined ", all.undefined)?;
+    print_count(&rt, b"unchanged ", all.unchanged)?;
+    print_count(&rt, b"refused ", all.refused)?;
+    print_words(&rt, 0x0123, 0x1000, 11)?;
+    print_words(&rt, 0xB120, 1, 11)?;
+    print_words(&rt, 0xC120, 1, 12)?;
+    print_words(&rt, 0xD3FF, 1, 1)?;
+    print_words(&rt, 0xE123, 0x400, 4)?;
+    print_words(&rt, 0xF923, 1, 1)
 }

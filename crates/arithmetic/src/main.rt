@@ -2,10 +2,12 @@
 // prints a line for each: mnemonic, operands, result and NZCV after. The flags before are clear,
 // or all set where a line says `from 1111`.
 #![tactic(auto)]
+
 ghost use Rattle.std.specs.Prelude.{◌≤◌};
 
 use alu::Outcome;
 use isa::{BinaryOp, ConstantOp, Flags, UnaryOp};
+use std::io;
 
 // Puts a byte into a line, and answers the index after it. Past the line's end it is lost.
 fn put(line: &mut [u8; 48], at: usize, byte: u8) -> usize
@@ -96,120 +98,134 @@ fn put_outcome(line: &mut [u8; 48], at: usize, outcome: Outcome) -> usize
     put(line, end, b'\n')
 }
 
-fn print_line(line: [u8; 48], end: usize)
+fn print_line(rt: &impl Print, line: [u8; 48], end: usize) -> io::Result<()>
     requires { end ≤ 48 }
 {
-    io::write_all(1, &line[..end]);
+    rt.write_all(&line[..end])
 }
 
-fn show_binary(op: BinaryOp, name: &[u8], p: u16, q: u16, set: bool) {
+fn show_binary(
+    rt: &impl Print,
+    op: BinaryOp,
+    name: &[u8],
+    p: u16,
+    q: u16,
+    set: bool,
+) -> io::Result<()> {
     let mut line = [0; 48];
     let first = put_text(&mut line, 0, name);
     let second = put_word(&mut line, first, p);
     let before = put_word(&mut line, second, q);
     let equals = put_before(&mut line, before, set);
     let end = put_outcome(&mut line, equals, alu::binary(op, p, q, all_flags(set)));
-    print_line(line, end);
+    print_line(rt, line, end)
 }
 
-fn show_constant(op: ConstantOp, name: &[u8], p: u16, k: u8, set: bool) {
+fn show_constant(
+    rt: &impl Print,
+    op: ConstantOp,
+    name: &[u8],
+    p: u16,
+    k: u8,
+    set: bool,
+) -> io::Result<()> {
     let mut line = [0; 48];
     let first = put_text(&mut line, 0, name);
     let second = put_word(&mut line, first, p);
     let before = put_byte(&mut line, second, k);
     let equals = put_before(&mut line, before, set);
     let end = put_outcome(&mut line, equals, alu::constant(op, p, k, all_flags(set)));
-    print_line(line, end);
+    print_line(rt, line, end)
 }
 
-fn show_unary(op: UnaryOp, name: &[u8], p: u16, set: bool) {
+fn show_unary(rt: &impl Print, op: UnaryOp, name: &[u8], p: u16, set: bool) -> io::Result<()> {
     let mut line = [0; 48];
     let first = put_text(&mut line, 0, name);
     let before = put_word(&mut line, first, p);
     let equals = put_before(&mut line, before, set);
     let end = put_outcome(&mut line, equals, alu::unary(op, p, all_flags(set)));
-    print_line(line, end);
+    print_line(rt, line, end)
 }
 
-fn show_add(p: u16, q: u16) {
-    show_binary(BinaryOp::Add, b"ADD", p, q, false);
+fn show_add(rt: &impl Print, p: u16, q: u16) -> io::Result<()> {
+    show_binary(rt, BinaryOp::Add, b"ADD", p, q, false)
 }
 
-fn show_sub(p: u16, q: u16) {
-    show_binary(BinaryOp::Sub, b"SUB", p, q, false);
+fn show_sub(rt: &impl Print, p: u16, q: u16) -> io::Result<()> {
+    show_binary(rt, BinaryOp::Sub, b"SUB", p, q, false)
 }
 
-fn show_addi(p: u16, k: u8) {
-    show_constant(ConstantOp::Addi, b"ADDI", p, k, false);
+fn show_addi(rt: &impl Print, p: u16, k: u8) -> io::Result<()> {
+    show_constant(rt, ConstantOp::Addi, b"ADDI", p, k, false)
 }
 
-fn show_subi(p: u16, k: u8) {
-    show_constant(ConstantOp::Subi, b"SUBI", p, k, false);
+fn show_subi(rt: &impl Print, p: u16, k: u8) -> io::Result<()> {
+    show_constant(rt, ConstantOp::Subi, b"SUBI", p, k, false)
 }
 
 // AND, OR, XOR, NOT: C and V stay.
-fn show_logic(p: u16, q: u16) {
-    show_binary(BinaryOp::And, b"AND", p, q, true);
-    show_binary(BinaryOp::Or, b"OR", p, q, true);
-    show_binary(BinaryOp::Xor, b"XOR", p, q, true);
-    show_unary(UnaryOp::Not, b"NOT", p, true);
+fn show_logic(rt: &impl Print, p: u16, q: u16) -> io::Result<()> {
+    show_binary(rt, BinaryOp::And, b"AND", p, q, true)?;
+    show_binary(rt, BinaryOp::Or, b"OR", p, q, true)?;
+    show_binary(rt, BinaryOp::Xor, b"XOR", p, q, true)?;
+    show_unary(rt, UnaryOp::Not, b"NOT", p, true)
 }
 
-fn show_shifts(p: u16, set: bool) {
-    show_unary(UnaryOp::Sl0, b"SL0", p, set);
-    show_unary(UnaryOp::Sl1, b"SL1", p, set);
-    show_unary(UnaryOp::Sr0, b"SR0", p, set);
-    show_unary(UnaryOp::Sr1, b"SR1", p, set);
+fn show_shifts(rt: &impl Print, p: u16, set: bool) -> io::Result<()> {
+    show_unary(rt, UnaryOp::Sl0, b"SL0", p, set)?;
+    show_unary(rt, UnaryOp::Sl1, b"SL1", p, set)?;
+    show_unary(rt, UnaryOp::Sr0, b"SR0", p, set)?;
+    show_unary(rt, UnaryOp::Sr1, b"SR1", p, set)
 }
 
 // LDL, LDH: all flags stay.
-fn show_loads(p: u16, k: u8, set: bool) {
-    show_constant(ConstantOp::Ldl, b"LDL", p, k, set);
-    show_constant(ConstantOp::Ldh, b"LDH", p, k, set);
+fn show_loads(rt: &impl Print, p: u16, k: u8, set: bool) -> io::Result<()> {
+    show_constant(rt, ConstantOp::Ldl, b"LDL", p, k, set)?;
+    show_constant(rt, ConstantOp::Ldh, b"LDH", p, k, set)
 }
 
 // Document 01, 'Proof bench'.
-fn show_worked() {
-    show_add(0x1008, 0x1234);
-    show_sub(0x1008, 0x1234);
-    show_addi(0x1018, 0xFF);
-    show_addi(0xFFFF, 0xFF);
-    show_addi(0x7FFF, 0x01);
-    show_subi(0x8000, 0x01);
-    show_unary(UnaryOp::Sr1, b"SR1", 0x9754, false);
+fn show_worked(rt: &impl Print) -> io::Result<()> {
+    show_add(rt, 0x1008, 0x1234)?;
+    show_sub(rt, 0x1008, 0x1234)?;
+    show_addi(rt, 0x1018, 0xFF)?;
+    show_addi(rt, 0xFFFF, 0xFF)?;
+    show_addi(rt, 0x7FFF, 0x01)?;
+    show_subi(rt, 0x8000, 0x01)?;
+    show_unary(rt, UnaryOp::Sr1, b"SR1", 0x9754, false)
 }
 
-fn show_sums() {
-    show_add(0x0000, 0x0000);
-    show_add(0xFFFF, 0x0001);
-    show_add(0x7FFF, 0x0001);
-    show_add(0x8000, 0x8000);
-    show_add(0xFFFF, 0xFFFF);
-    show_add(0x8000, 0x7FFF);
-    show_binary(BinaryOp::Add, b"ADD", 0x0001, 0x0001, true);
+fn show_sums(rt: &impl Print) -> io::Result<()> {
+    show_add(rt, 0x0000, 0x0000)?;
+    show_add(rt, 0xFFFF, 0x0001)?;
+    show_add(rt, 0x7FFF, 0x0001)?;
+    show_add(rt, 0x8000, 0x8000)?;
+    show_add(rt, 0xFFFF, 0xFFFF)?;
+    show_add(rt, 0x8000, 0x7FFF)?;
+    show_binary(rt, BinaryOp::Add, b"ADD", 0x0001, 0x0001, true)
 }
 
-fn show_differences() {
-    show_sub(0x0000, 0x0000);
-    show_sub(0x0000, 0x0001);
-    show_sub(0x8000, 0x0001);
-    show_sub(0x7FFF, 0xFFFF);
-    show_sub(0xFFFF, 0x7FFF);
-    show_sub(0x0001, 0x8000);
-    show_binary(BinaryOp::Sub, b"SUB", 0x0001, 0x0002, true);
+fn show_differences(rt: &impl Print) -> io::Result<()> {
+    show_sub(rt, 0x0000, 0x0000)?;
+    show_sub(rt, 0x0000, 0x0001)?;
+    show_sub(rt, 0x8000, 0x0001)?;
+    show_sub(rt, 0x7FFF, 0xFFFF)?;
+    show_sub(rt, 0xFFFF, 0x7FFF)?;
+    show_sub(rt, 0x0001, 0x8000)?;
+    show_binary(rt, BinaryOp::Sub, b"SUB", 0x0001, 0x0002, true)
 }
 
-fn main() {
-    show_worked();
-    show_sums();
-    show_differences();
-    show_logic(0x1234, 0x0FF0);
-    show_logic(0xFF00, 0x80FF);
-    show_logic(0x0000, 0x0000);
-    show_logic(0xFFFF, 0xFFFF);
-    show_shifts(0x8001, false);
-    show_shifts(0x0000, false);
-    show_shifts(0x8001, true);
-    show_loads(0x1234, 0xAB, true);
-    show_loads(0x1234, 0x00, false);
+fn main(rt: HostRuntime) -> io::Result<()> {
+    show_worked(&rt)?;
+    show_sums(&rt)?;
+    show_differences(&rt)?;
+    show_logic(&rt, 0x1234, 0x0FF0)?;
+    show_logic(&rt, 0xFF00, 0x80FF)?;
+    show_logic(&rt, 0x0000, 0x0000)?;
+    show_logic(&rt, 0xFFFF, 0xFFFF)?;
+    show_shifts(&rt, 0x8001, false)?;
+    show_shifts(&rt, 0x0000, false)?;
+    show_shifts(&rt, 0x8001, true)?;
+    show_loads(&rt, 0x1234, 0xAB, true)?;
+    show_loads(&rt, 0x1234, 0x00, false)
 }

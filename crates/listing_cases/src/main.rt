@@ -1,23 +1,25 @@
 // Corner cases of the listing's store and of the comment call, a printed line for each. For a store: the answer, the first four
 // words that changed, and how many did.
 #![tactic(auto)]
-ghost use Rattle.std.specs.Prelude.{◌<◌, ◌≤◌, length};
+
+ghost use Rattle.std.specs.Prelude.{◌<◌, ◌≤◌, length, IfOk};
 
 use listing::StoreAnswer;
+use std::io;
 
-fn print(text: &[u8]) {
-    io::write_all(1, text);
+fn print(rt: &impl Print, text: &[u8]) -> io::Result<()> {
+    rt.write_all(text)
 }
 
 // A number in base ten.
-fn print_number(before: &[u8], n: usize) {
-    io::write_all(1, before);
-    io::print_decimal(1, n as u64);
+fn print_number(rt: &impl Print, before: &[u8], n: usize) -> io::Result<()> {
+    rt.write_all(before)?;
+    rt.print(n as u64)
 }
 
-fn print_word(before: &[u8], word: u16) {
-    print(before);
-    print(&hexadecimal::word_text(word));
+fn print_word(rt: &impl Print, before: &[u8], word: u16) -> io::Result<()> {
+    print(rt, before)?;
+    print(rt, &hexadecimal::word_text(word))
 }
 
 // What the word at an index is before a store.
@@ -32,44 +34,45 @@ fn fill(memory: &mut [u16]) {
 }
 
 // A word that changed, after some others that did.
-fn print_change(others: usize, i: usize, word: u16) {
+fn print_change(rt: &impl Print, others: usize, i: usize, word: u16) -> io::Result<()> {
     if others < 4 {
-        print_word(b" ", (i % 65536) as u16);
-        print_word(b"=", word);
+        print_word(rt, b" ", (i % 65536) as u16)?;
+        print_word(rt, b"=", word)?;
     }
+    Ok(())
 }
 
 // Prints the first words that changed, and answers how many did.
-fn print_changes(memory: &[u16]) -> usize {
+fn print_changes(rt: &impl Print, memory: &[u16]) -> io::Result<usize> {
     let mut count = 0;
     for i in 0..memory.len() {
         let word = memory[i];
         if word != filler(i) {
-            print_change(count, i, word);
+            print_change(rt, count, i, word)?;
             count += 1;
         }
     }
-    count
+    Ok(count)
 }
 
-fn print_answer(answer: StoreAnswer) {
+fn print_answer(rt: &impl Print, answer: StoreAnswer) -> io::Result<()> {
     match answer {
-        StoreAnswer::Stored(count) => print_number(b": stored ", count),
+        StoreAnswer::Stored(count) => print_number(rt, b": stored ", count),
         StoreAnswer::Refused(fault, offset) => {
-            print_number(b": refused ", listing::fault_number(fault) as usize);
-            print_number(b" at ", offset);
+            print_number(rt, b": refused ", listing::fault_number(fault) as usize)?;
+            print_number(rt, b" at ", offset)
         }
     }
 }
 
 // Stores a listing into a memory as it lies.
-fn show_store(memory: &mut [u16], name: &[u8], text: &[u8]) {
+fn show_store(rt: &impl Print, memory: &mut [u16], name: &[u8], text: &[u8]) -> io::Result<()> {
     let answer = listing::store(text, memory);
-    print(name);
-    print_answer(answer);
-    let count = print_changes(memory);
-    print_number(b", changed ", count);
-    print(b"\n");
+    print(rt, name)?;
+    print_answer(rt, answer)?;
+    let count = print_changes(rt, memory)?;
+    print_number(rt, b", changed ", count)?;
+    print(rt, b"\n")
 }
 
 // The place of the first `|` from a place on, the length where there is none.
@@ -108,34 +111,46 @@ fn prepare(memory: &mut [u16], keep: bool) {
 }
 
 // The case at a place: a name, `|`, a listing, `|`. Answers the place after it.
-fn show_case(memory: &mut [u16], keep: bool, cases: &[u8], at: usize) -> usize
+fn show_case(
+    rt: &impl Print,
+    memory: &mut [u16],
+    keep: bool,
+    cases: &[u8],
+    at: usize,
+) -> io::Result<usize>
     requires { at < length cases.now }
-    ensures { at < result }
+    ensures { IfOk result (λ next. at < next) }
 {
     let bar = bar_from(cases, at);
     let start = after(bar, cases.len());
     let end = bar_from(cases, start);
     prepare(memory, keep);
-    show_store(memory, between(cases, at, bar), between(cases, start, end));
-    end + 1
+    show_store(
+        rt,
+        memory,
+        between(cases, at, bar),
+        between(cases, start, end),
+    )?;
+    Ok(end + 1)
 }
 
 // Stores the listings of some cases: each into a memory filled anew, or into what the last one left.
-fn show_cases(memory: &mut [u16], keep: bool, cases: &[u8]) {
+fn show_cases(rt: &impl Print, memory: &mut [u16], keep: bool, cases: &[u8]) -> io::Result<()> {
     let mut at = 0;
     while at < cases.len() {
-        at = show_case(memory, keep, cases, at);
+        at = show_case(rt, memory, keep, cases, at)?;
     }
+    Ok(())
 }
 
 // Cases with a memory of eight words.
-fn show_small(cases: &[u8]) {
+fn show_small(rt: &impl Print, cases: &[u8]) -> io::Result<()> {
     let mut memory = [0; 8];
-    show_cases(&mut memory, false, cases);
+    show_cases(rt, &mut memory, false, cases)
 }
 
 // Lines of spaces or none, how the last line ends, and spaces and tabs elsewhere.
-fn show_blank_lines() {
+fn show_blank_lines(rt: &impl Print) -> io::Result<()> {
     let cases = b"\
         empty||\
         one LF|\n|\
@@ -154,11 +169,11 @@ fn show_blank_lines() {
         leading tab|\t0000 1234\n|\
         trailing tab|0000 1234\t\n|\
         only a tab|\t\n|";
-    show_small(cases);
+    show_small(rt, cases)
 }
 
 // Digits of either case, bytes next to them in the code, and too few or too many digits.
-fn show_digits() {
+fn show_digits(rt: &impl Print) -> io::Result<()> {
     let cases = b"\
         upper case|0000 0123\n0001 4567\n0002 89AB\n0003 CDEF\n|\
         lower case|0002 89ab\n0003 cdef\n|\
@@ -181,11 +196,11 @@ fn show_digits() {
         only an address|0000\n|\
         no word|0000 \n|\
         a third number|0000 1234 5678\n|";
-    show_small(cases);
+    show_small(rt, cases)
 }
 
 // Comments, and `;` where none can start. CR, 0 and 255 are wrong outside a comment and fine in one; none ends a line.
-fn show_comments() {
+fn show_comments(rt: &impl Print) -> io::Result<()> {
     let cases = b"\
         only a semicolon|;\n|\
         only a comment|; a\n|\
@@ -214,12 +229,12 @@ fn show_comments() {
         255 as a digit|000\xff 1234\n|\
         only 0|\x00|\
         only 255|\xff|";
-    show_small(cases);
+    show_small(rt, cases)
 }
 
 // Addresses strictly rise and stay within the memory; the first faulty line wins, and 2 goes before 3 and 4 within a line. A line
 // that is past the end and does not rise comes after another that is past the end.
-fn show_faults() {
+fn show_faults(rt: &impl Print) -> io::Result<()> {
     let cases = b"\
         rising|0000 1111\n0001 2222\n0002 3333\n|\
         rising by leaps|0002 1111\n0007 2222\n|\
@@ -247,33 +262,33 @@ fn show_faults() {
         4 on the last line|0000 1111\n0001 2222\n0002 3333\n0008 4444\n|\
         2 at the end, no LF|0000 1111\n0001 2222\nx|\
         2 after comments|0000 1111 ; a\n\n   \n0001 2222;b\n ;\n|";
-    show_small(cases);
+    show_small(rt, cases)
 }
 
 // No words; as many as addresses reach; one more.
-fn show_limits() {
+fn show_limits(rt: &impl Print) -> io::Result<()> {
     let mut none = [0; 0];
     let cases = b"\
         L 0, 0000|0000 1234\n|\
         L 0, empty||\
         L 0, blank lines|\n  \n|\
         L 0, ill-formed|0000\n|";
-    show_cases(&mut none, false, cases);
+    show_cases(rt, &mut none, false, cases)?;
     let mut most = [0; 65536];
     let cases = b"\
         L 65536, FFFF|0000 5678\nFFFF 1234\n|\
         letters in addresses|00ff 0001\n0aBc 0002\nABCD 0003\nfedc 0004\n|\
         FFFF twice|FFFF 1111\nFFFF 2222\n|\
         0000 after FFFF|FFFF 1111\n0000 2222\n|";
-    show_cases(&mut most, false, cases);
+    show_cases(rt, &mut most, false, cases)?;
     let mut more = [0; 65537];
     let cases = b"\
         L 65537, FFFF|0000 5678\nFFFF 1234\n|";
-    show_cases(&mut more, false, cases);
+    show_cases(rt, &mut more, false, cases)
 }
 
 // One store after another into the same memory.
-fn show_again() {
+fn show_again(rt: &impl Print) -> io::Result<()> {
     let mut memory = [0; 8];
     fill(&mut memory);
     let cases = b"\
@@ -281,7 +296,7 @@ fn show_again() {
         same store again|0001 1111\n0003 2222\n|\
         refused after a store|0001 3333\n0008 4444\n|\
         other words stay|0000 5555\n0003 6666\n|";
-    show_cases(&mut memory, true, cases);
+    show_cases(rt, &mut memory, true, cases)
 }
 
 // A byte of the long listing: ten for each address, whose word is its filler.
@@ -307,71 +322,73 @@ fn write_entries(text: &mut [u8; 655360]) {
     }
 }
 
-fn show_entries(memory: &mut [u16; 65536], text: &[u8; 655360]) {
-    show_store(memory, b"65536 lines", text);
+fn show_entries(rt: &impl Print, memory: &mut [u16; 65536], text: &[u8; 655360]) -> io::Result<()> {
+    show_store(rt, memory, b"65536 lines", text)
 }
 
 // A line for each address: the last with a wrong digit, then with the address before; all sound; then a space for the last LF.
 // The words are zero before, so that none counts as changed once all are stored.
-fn show_long() {
+fn show_long(rt: &impl Print) -> io::Result<()> {
     let mut memory = [0; 65536];
     let mut text = [0; 655360];
     write_entries(&mut text);
     text[655358] = b'G';
-    show_entries(&mut memory, &text);
+    show_entries(rt, &mut memory, &text)?;
     text[655358] = b'F';
     text[655353] = b'E';
-    show_entries(&mut memory, &text);
+    show_entries(rt, &mut memory, &text)?;
     text[655353] = b'F';
-    show_entries(&mut memory, &text);
+    show_entries(rt, &mut memory, &text)?;
     text[655359] = b' ';
-    show_entries(&mut memory, &text);
+    show_entries(rt, &mut memory, &text)
 }
 
 // A byte of a comment, with CR as `\r`.
-fn print_byte(byte: u8) {
+fn print_byte(rt: &impl Print, byte: u8) -> io::Result<()> {
     if byte == b'\r' {
-        print(b"\\r");
+        print(rt, b"\\r")
     } else {
-        io::write_all(1, &[byte]);
+        rt.write_all(&[byte])
     }
 }
 
-fn print_part(part: &[u8]) {
+fn print_part(rt: &impl Print, part: &[u8]) -> io::Result<()> {
     for i in 0..part.len() {
-        print_byte(part[i]);
+        print_byte(rt, part[i])?;
     }
+    Ok(())
 }
 
-fn show_comment(text: &[u8], offset: usize) {
-    print_number(b"comment from ", offset);
-    print(b": [");
-    print_part(lines::comment(text, offset));
-    print(b"]\n");
+fn show_comment(rt: &impl Print, text: &[u8], offset: usize) -> io::Result<()> {
+    print_number(rt, b"comment from ", offset)?;
+    print(rt, b": [")?;
+    print_part(rt, lines::comment(text, offset))?;
+    print(rt, b"]\n")
 }
 
-fn show_at(offset: usize) {
+fn show_at(rt: &impl Print, offset: usize) -> io::Result<()> {
     let text = b"0000 1234 ;a;b\n0001 5678\n0002 9ABC ; c\r\n0003 DEF0;\n0004 0000 ;d";
-    show_comment(text, offset);
+    show_comment(rt, text, offset)
 }
 
 // Every offset of a listing, and the two after it.
-fn show_every_offset() {
+fn show_every_offset(rt: &impl Print) -> io::Result<()> {
     for offset in 0..65 {
-        show_at(offset);
+        show_at(rt, offset)?;
     }
+    Ok(())
 }
 
 // The largest offset; listings of nothing and of one byte.
-fn show_little() {
-    show_at(18446744073709551615);
-    show_comment(b"", 0);
-    show_comment(b"", 1);
-    show_comment(b";", 0);
+fn show_little(rt: &impl Print) -> io::Result<()> {
+    show_at(rt, 18446744073709551615)?;
+    show_comment(rt, b"", 0)?;
+    show_comment(rt, b"", 1)?;
+    show_comment(rt, b";", 0)
 }
 
 // A comment of 200 bytes behind 80 others: from the line's start, from its `;` and from its own middle.
-fn show_far() {
+fn show_far(rt: &impl Print) -> io::Result<()> {
     let text = b"\
         0000 1234                                                                      ;\
         1 comment of 200 bytes, 40 to a row.....\
@@ -380,20 +397,20 @@ fn show_far() {
         4 comment of 200 bytes, 40 to a row.....\
         5 comment of 200 bytes, 40 to a row.....\
         \n0001 5678 ; next";
-    show_comment(text, 0);
-    show_comment(text, 79);
-    show_comment(text, 180);
+    show_comment(rt, text, 0)?;
+    show_comment(rt, text, 79)?;
+    show_comment(rt, text, 180)
 }
 
-fn main() {
-    show_blank_lines();
-    show_digits();
-    show_comments();
-    show_faults();
-    show_limits();
-    show_again();
-    show_long();
-    show_every_offset();
-    show_little();
-    show_far();
+fn main(rt: HostRuntime) -> io::Result<()> {
+    show_blank_lines(&rt)?;
+    show_digits(&rt)?;
+    show_comments(&rt)?;
+    show_faults(&rt)?;
+    show_limits(&rt)?;
+    show_again(&rt)?;
+    show_long(&rt)?;
+    show_every_offset(&rt)?;
+    show_little(&rt)?;
+    show_far(&rt)
 }

@@ -2,8 +2,14 @@
 // own): executed in steps, with what the comments of 003 say of registers, SP, PC and flags beside what is found; then the registers and
 // the totals of a run.
 #![tactic(auto)]
+
+ghost use Rattle.std.specs.Prelude.{◌≤◌, ◌<◌, length, take, IfOk};
+ghost use Rattle.std.specs.Io.KnownBytes.{Consumes, IsAtEnd};
+
 use isa::Flags;
 use r8_core::{Core, LoadAnswer, RunAnswer, Snapshot, ViewAnswer};
+use std::io;
+use std::io::Read;
 
 // What a comment of 003 says that a register holds after the instruction at an address: R0 to R15 by their numbers, 16 for SP, 17 for PC,
 // 18 for nothing.
@@ -55,23 +61,23 @@ fn later_claims(address: u16) -> Claim {
     }
 }
 
-fn print(text: &[u8]) {
-    io::write_all(1, text);
+fn print(rt: &impl Print, text: &[u8]) -> io::Result<()> {
+    rt.write_all(text)
 }
 
-fn print_word(before: &[u8], word: u16) {
-    print(before);
-    print(&hexadecimal::word_text(word));
+fn print_word(rt: &impl Print, before: &[u8], word: u16) -> io::Result<()> {
+    print(rt, before)?;
+    print(rt, &hexadecimal::word_text(word))
 }
 
-fn print_number(before: &[u8], n: u64) {
-    print(before);
-    io::print_decimal(1, n);
+fn print_number(rt: &impl Print, before: &[u8], n: u64) -> io::Result<()> {
+    print(rt, before)?;
+    rt.print(n)
 }
 
-fn print_flags(before: &[u8], flags: Flags) {
-    print(before);
-    print(&text::flags_text(flags));
+fn print_flags(rt: &impl Print, before: &[u8], flags: Flags) -> io::Result<()> {
+    print(rt, before)?;
+    print(rt, &text::flags_text(flags))
 }
 
 fn held(core: Core, register: u8) -> u16 {
@@ -83,112 +89,118 @@ fn held(core: Core, register: u8) -> u16 {
     if i == 16 { core.sp } else { core.pc }
 }
 
-fn print_name(register: u8) {
+fn print_name(rt: &impl Print, register: u8) -> io::Result<()> {
     if register < 16 {
-        print_number(b" R", register as u64);
+        print_number(rt, b" R", register as u64)
     } else if register == 16 {
-        print(b" SP");
+        print(rt, b" SP")
     } else {
-        print(b" PC");
+        print(rt, b" PC")
     }
 }
 
 // A claim beside what is found.
-fn print_claim(address: u16, claim: Claim, core: Core) {
+fn print_claim(rt: &impl Print, address: u16, claim: Claim, core: Core) -> io::Result<()> {
     let found = held(core, claim.0);
-    print_word(b"", address);
-    print_name(claim.0);
-    print_word(b" ", found);
+    print_word(rt, b"", address)?;
+    print_name(rt, claim.0)?;
+    print_word(rt, b" ", found)?;
     if found == claim.1 {
-        print(b", as 003 says\n");
+        print(rt, b", as 003 says\n")
     } else {
-        print_word(b", where 003 says ", claim.1);
-        print(b"\n");
+        print_word(rt, b", where 003 says ", claim.1)?;
+        print(rt, b"\n")
     }
 }
 
 // What the comments of 003 say of flags, and what is right.
-fn print_remark(address: u16, before: Flags, after: Flags) {
+fn print_remark(rt: &impl Print, address: u16, before: Flags, after: Flags) -> io::Result<()> {
     if address == 0x0019 {
-        print_flags(b"0019 NZCV ", after);
-        print_flags(b", before it ", before);
-        print(b": LDH sets no flag, where 003 says that it sets N\n");
+        print_flags(rt, b"0019 NZCV ", after)?;
+        print_flags(rt, b", before it ", before)?;
+        print(rt, b": LDH sets no flag, where 003 says that it sets N\n")?;
     }
     if address == 0x001A {
-        print_flags(b"001A NZCV ", after);
-        print(b": FFFF + FF gives C and not V, where 003 says that it sets V\n");
+        print_flags(rt, b"001A NZCV ", after)?;
+        print(
+            rt,
+            b": FFFF + FF gives C and not V, where 003 says that it sets V\n",
+        )?;
     }
     if address == 0x001B {
-        print_flags(b"001B NZCV ", after);
+        print_flags(rt, b"001B NZCV ", after)?;
         if after.z {
-            print(b": Z is set, as 003 says\n");
+            print(rt, b": Z is set, as 003 says\n")?;
         } else {
-            print(b": Z is clear, where 003 says that it is set\n");
+            print(rt, b": Z is clear, where 003 says that it is set\n")?;
         }
     }
+    Ok(())
 }
 
-fn print_step(address: u16, before: Core, after: Core) {
+fn print_step(rt: &impl Print, address: u16, before: Core, after: Core) -> io::Result<()> {
     let claim = first_claims(address);
     if claim.0 < 18 {
-        print_claim(address, claim, after);
+        print_claim(rt, address, claim, after)?;
     }
     let old = before.flags;
     let new = after.flags;
-    print_remark(address, old, new);
+    print_remark(rt, address, old, new)
 }
 
-fn print_steps(mut core: Core, count: u32, memory: &mut [u16]) {
+fn print_steps(rt: &impl Print, mut core: Core, count: u32, memory: &mut [u16]) -> io::Result<()> {
     let mut left = count;
     while left > 0 {
         let next = core.step(memory).core;
-        print_step(core.pc, core, next);
+        print_step(rt, core.pc, core, next)?;
         core = next;
         left -= 1;
     }
+    Ok(())
 }
 
 // Four registers to a line.
-fn print_gap(i: usize) {
+fn print_gap(rt: &impl Print, i: usize) -> io::Result<()> {
     if i % 4 == 3 {
-        print(b"\n");
+        print(rt, b"\n")
     } else {
-        print(b" ");
+        print(rt, b" ")
     }
 }
 
-fn print_registers(regs: [u16; 16]) {
+fn print_registers(rt: &impl Print, regs: [u16; 16]) -> io::Result<()> {
     let mut i = 0;
     while i < 16 {
-        print_number(b"R", i as u64);
-        print_word(b" ", regs[i]);
-        print_gap(i);
+        print_number(rt, b"R", i as u64)?;
+        print_word(rt, b" ", regs[i])?;
+        print_gap(rt, i)?;
         i += 1;
     }
+    Ok(())
 }
 
-fn print_snapshot(shown: Snapshot) {
+fn print_snapshot(rt: &impl Print, shown: Snapshot) -> io::Result<()> {
     let regs = shown.regs;
     let flags = shown.flags;
-    print_registers(regs);
-    print_word(b"PC ", shown.pc);
-    print_word(b" SP ", shown.sp);
-    print_flags(b" NZCV ", flags);
-    print_number(b" clock ", shown.clock.0 as u64);
-    print(b"\n");
+    print_registers(rt, regs)?;
+    print_word(rt, b"PC ", shown.pc)?;
+    print_word(rt, b" SP ", shown.sp)?;
+    print_flags(rt, b" NZCV ", flags)?;
+    print_number(rt, b" clock ", shown.clock.0 as u64)?;
+    print(rt, b"\n")
 }
 
-fn print_view(core: Core) {
+fn print_view(rt: &impl Print, core: Core) -> io::Result<()> {
     let reply = core.view();
     let answer = reply.answer;
     let shown = reply.snapshot;
     match answer {
-        ViewAnswer::Viewed => print_snapshot(shown),
-        ViewAnswer::Refused(_) => print(b"view refused\n"),
+        ViewAnswer::Viewed => print_snapshot(rt, shown),
+        ViewAnswer::Refused(_) => print(rt, b"view refused\n"),
     }
 }
 
-fn print_run(core: Core, memory: &mut [u16], again: &mut [u16]) {
+fn print_run(rt: &impl Print, core: Core, memory: &mut [u16], again: &mut [u16]) -> io::Result<()> {
     let reply = core.run(1000, memory);
     let answer = reply.answer;
     match answer {
@@ -197,33 +209,53 @@ fn print_run(core: Core, memory: &mut [u16], again: &mut [u16]) {
             instructions,
             end,
         } => {
-            print_steps(core, instructions.0, again);
-            print_view(reply.core);
-            print_number(b"cycles ", cycles.0 as u64);
-            print_number(b" instructions ", instructions.0 as u64);
-            print(&[b' ', b'e', b'n', b'd', b' ', text::letter(end), b'\n']);
+            print_steps(rt, core, instructions.0, again)?;
+            print_view(rt, reply.core)?;
+            print_number(rt, b"cycles ", cycles.0 as u64)?;
+            print_number(rt, b" instructions ", instructions.0 as u64)?;
+            print(
+                rt,
+                &[b' ', b'e', b'n', b'd', b' ', text::letter(end), b'\n'],
+            )
         }
-        RunAnswer::Refused(_) => print(b"run refused\n"),
+        RunAnswer::Refused(_) => print(rt, b"run refused\n"),
     }
 }
 
-fn main() {
+// Fills a buffer from a reader, and answers how many bytes came before it was full or the reader ended.
+fn read_full<R: Read>(reader: &mut R, buffer: &mut [u8]) -> io::Result<usize>
+    ensures within { IfOk result (λ n. n ≤ length buffer.new) }
+    ensures bytes { IfOk result (λ n. Consumes (R.remaining reader.old) (R.remaining reader.new) (take n buffer.new)) }
+    ensures end { IfOk result (λ n. n < length buffer.new → IsAtEnd (R.remaining reader.new)) }
+{
+    let mut count = 0;
+    while count < buffer.len() {
+        let more = reader.read(&mut buffer[count..])?;
+        if more == 0 {
+            return Ok(count);
+        }
+        count += more;
+    }
+    Ok(count)
+}
+
+fn main(rt: HostRuntime) -> io::Result<()> {
     let mut input = [0u8; 4096];
-    let length = io::read_full(0, &mut input);
+    let length = read_full(&mut rt.stdin(), &mut input)?;
     let mut memory = [0u16; 16384];
     let loaded = r8_core::fresh().load(&input[..length], &mut memory);
     let answer = loaded.answer;
     match answer {
         LoadAnswer::Stored(count) => {
-            print_number(b"words stored ", count as u64);
-            print(b"\n");
+            print_number(&rt, b"words stored ", count as u64)?;
+            print(&rt, b"\n")?;
             let mut again = memory;
-            print_run(loaded.core, &mut memory, &mut again);
+            print_run(&rt, loaded.core, &mut memory, &mut again)
         }
         LoadAnswer::Faulty(_, offset) => {
-            print_number(b"load refused at ", offset as u64);
-            print(b"\n");
+            print_number(&rt, b"load refused at ", offset as u64)?;
+            print(&rt, b"\n")
         }
-        LoadAnswer::Refused(_) => print(b"load refused\n"),
+        LoadAnswer::Refused(_) => print(&rt, b"load refused\n"),
     }
 }
