@@ -6,7 +6,7 @@ use Prim.Native.Nat.{ℕ, ◌≤◌}
 use native.Mathlib.Omega.{arith}
 use lib.Dec.{ltb}
 use lib.ListN.{length}
-use borrow.Author.Tests.{ne_eqb, ltb-false}
+use borrow.Author.Tests.{ltb-false}
 use Rattle.r8_core.specs.Calls.{Reply}
 use Rattle.r8_core.specs.declared.Core.{Core}
 use Rattle.layout.specs.Layout.{answer_size}
@@ -33,10 +33,6 @@ taken registers state answer code e z =
     (fits registers state both.0, ltb-false _ _ both.1)
 
 module _ (call : Core → List ℕ → Reply) (x : Slices) (code : ℕ) (e : code ≡ code_number (code_of x.registers x.state x.answer)) where
-  pub refused : (code ≡ 0 → ⊥) → (code, x) ≡ called call x
-  unfolding called
-  refused h = rw (← e, ne_eqb code 0 h)
-
   pub answered : (core : Core) (reply : Reply) → code ≡ 0 → core ≡ core_of x.registers x.state → reply ≡ call core x.memory
       → (0, after reply x.answer) ≡ called call x
   unfolding called

@@ -54,20 +54,20 @@ cycles_bank (suc n) p = by (is_going p.core.stop) refl (cycles_bank n (cycle_on 
     by true g ih = rw (one_more n p g) (ih ∙ cycle_bank p.memory p.core)
     by false g ih = rw (none_more (suc n) p g) refl
 
-Held : Reply → Type 0
-Held reply = Held reply.core
+HeldReply : Reply → Type 0
+HeldReply reply = Held reply.core
 
 pub run_held : (core : Core) (memory : List ℕ) (b : ℕ) → Held core → Held (run b core memory).core
-unfolding run Held
+unfolding run HeldReply
 run_held core memory b h =
-    either Held (eqb (run_number (length memory) core.stop (due_in_range core) core.clock.0 b) 0)
+    either HeldReply (eqb (run_number (length memory) core.stop (due_in_range core) core.clock.0 b) 0)
     (λ e. let due = due_stays b (starting core memory) (ready _ _ _ _ _ (eqb-true _ _ e)).due in
     (cycles_bank b (starting core memory) ∙ h.0, omega (arith, (due_when (cycles_on b (starting core memory)).core due).1)))
     h
 
 pub step_held : (core : Core) (memory : List ℕ) → Held core → Held (step core memory).core
-unfolding step Held step_transition after
+unfolding step HeldReply step_transition after
 step_held core memory h =
-    either Held (eqb (step_number (length memory) core.stop (due_one core) core.clock.0) 0)
+    either HeldReply (eqb (step_number (length memory) core.stop (due_one core) core.clock.0) 0)
     (λ _. (length-set core.regs _ _ ∙ h.0, omega arith))
     h

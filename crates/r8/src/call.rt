@@ -28,6 +28,7 @@ fn stop_of(n: u32) -> Stop
     }
 }
 
+#[tactic(auto, unfolding(crate::specs::Numbers::is_core))]
 fn is_core(registers: &[u16], state: &[u32]) -> bool
     ensures { result ≡ is_core registers.now state.now }
 {
@@ -46,6 +47,7 @@ fn is_core(registers: &[u16], state: &[u32]) -> bool
     state[2] <= 255
 }
 
+#[tactic(auto, unfolding(crate::specs::Call::code_of))]
 fn code_of(registers: &[u16], state: &[u32], answer: &[u64]) -> u32
     ensures { result ≡ code_number (code_of registers.now state.now answer.now) }
 {
@@ -139,6 +141,7 @@ fn put(reply: RunReply, registers: &mut [u16], state: &mut [u32], answer: &mut [
 }
 
 // b datapath cycles, fewer if the core stops.
+#[tactic(auto, unfolding(crate::specs::Call::called, crate::specs::Call::code_of))]
 #[unsafe(no_mangle)]
 pub extern "C" fn r8_run(
     registers: &mut [u16],
@@ -159,6 +162,7 @@ pub extern "C" fn r8_run(
 }
 
 // One instruction by the instruction engine.
+#[tactic(auto, unfolding(crate::specs::Call::called, crate::specs::Call::code_of))]
 #[unsafe(no_mangle)]
 pub extern "C" fn r8_step(
     registers: &mut [u16],

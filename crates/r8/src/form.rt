@@ -5,6 +5,7 @@ ghost use Rattle.r8.specs.Form.{form_numbers, formed};
 use super::codes;
 use forms::{Form, FormAnswer};
 
+#[tactic(auto, unfolding(crate::specs::Form::form_numbers))]
 fn form_numbers(form: Form) -> [u16; 7]
     ensures { result ≡ form_numbers form }
 {
@@ -21,6 +22,7 @@ fn form_numbers(form: Form) -> [u16; 7]
     ]
 }
 
+#[tactic(auto, unfolding(crate::specs::Form::formed))]
 #[unsafe(no_mangle)]
 pub extern "C" fn r8_form(word: u16, form: &mut [u16]) -> u32
     ensures { (result, form.new) ≡ formed word form.old }

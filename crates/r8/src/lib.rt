@@ -1,6 +1,7 @@
 // The simulator for other languages, as include/r8.h declares it. No function has a `requires`: each checks what it is given, and returns
 // a code other than 0 where that does not fit. That slices do not overlap is the caller's part.
 #![tactic(auto)]
+
 mod codes; // what the functions return
 mod copy; // words copied to the front of a lent slice
 pub mod form; // r8_form

@@ -30,7 +30,7 @@ enum ReadCall {
 
 // How many calls were played; or the index, from 0, of the first that is none of the five, or that names no stretch of the text; or, where
 // all are, that the answers do not fit.
-#[derive(Drop)]
+#[derive(Clone, Copy)]
 pub enum ReplayAnswer {
     Played(usize),
     NoCall(usize),
