@@ -1,11 +1,12 @@
--- The theorems `EveryListMade`, `ContractsKept` and `NothingAsked` of specs/Theorem.antt.
+-- The theorems `EveryListMade` of specs/Theorem.antt, `ContractsKept` and `NothingAsked` of specs/Contracts.antt.
 use mathlib.Core.Path.{◌≡◌, sym, ap, subst}
 use mathlib.Core.List.{List, map}
 use Rattle.r8_core.specs.Calls.{Answer}
 use Rattle.plays.specs.Plays.{play}
 use Rattle.plays.proofs.Plays.{each_then, plays_same}
 use Rattle.machine.specs.Machine.{fresh_machine}
-use Rattle.machine.specs.Theorem.{Call, reset, load, run, step, view, State, fresh_state, handed, on_core, on_machine, Agree, Given, Made, handed_back, as_made, Kept, EveryListMade, ContractsKept, NothingAsked}
+use Rattle.machine.specs.Theorem.{Call, reset, load, run, step, view, State, fresh_state, handed, on_core, on_machine, Agree, Given, Made, handed_back, as_made, Kept, EveryListMade}
+use Rattle.machine.specs.Contracts.{ContractsKept, NothingAsked}
 use Rattle.machine.proofs.Theorem.{every_list}
 
 -- where the equation holds, the call does what its definition says

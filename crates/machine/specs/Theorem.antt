@@ -1,8 +1,7 @@
 -- Demand 3: on every list of calls a core and the instruction machine agree (`EveryList`), and after each cycle of a run, as the definition of
 -- run has them (`EveryMoment`); and so do calls of the code, made one after the other (`EveryListMade`, by the contracts of the functions:
--- `ContractsKept`, `NothingAsked`). Five statements, proved in proofs/Theorem.antt and proofs/Made.antt.
+-- `ContractsKept`, `NothingAsked` of Contracts.antt). Three statements, proved in proofs/Theorem.antt and proofs/Made.antt.
 use Rattle.std.specs.Prelude.{◌≡◌, true, List, map, ℕ, ◌+◌, ◌≤◌, length}
-use Rattle.std.specs.Borrow.{Bor}
 use Rattle.r8_core.specs.Cores.{visible_of, fresh_core}
 use Rattle.r8_core.specs.Spent.{spent_of, due_in_range}
 use Rattle.r8_core.specs.Progress.{Progress, starting, cycles_on}
@@ -14,12 +13,6 @@ use Rattle.r8_core.specs.declared.End.{End}
 use Rattle.r8_core.specs.declared.LoadReply.{LoadReply}
 use Rattle.r8_core.specs.declared.RunReply.{RunReply}
 use Rattle.r8_core.specs.declared.ViewReply.{ViewReply}
-use Rattle.r8_core.proofs.fresh.Reads as contract-of-fresh
-use Rattle.r8_core.proofs.Core.reset.Reads as contract-of-reset
-use Rattle.r8_core.proofs.Core.load.Reads as contract-of-load
-use Rattle.r8_core.proofs.Core.run.Reads as contract-of-run
-use Rattle.r8_core.proofs.Core.step.Reads as contract-of-step
-use Rattle.r8_core.proofs.Core.view.Reads as contract-of-view
 use Rattle.plays.specs.Plays.{play, Each, counted}
 use Rattle.machine.specs.Machine as machine
 use Rattle.machine.specs.Machine.{Machine, fresh_machine, cycles_of}
@@ -154,27 +147,3 @@ EveryListMade =
     (memory : List ℕ) (calls : List Made)
     → Each as_made (λ m s. Kept m.call m.given s.core s.memory) calls (fresh_state memory)
     → Agree (play as_made calls (fresh_state memory)) (play on_machine (map (λ m. m.call) calls) (fresh_machine memory))
-
--- The contracts as they stand at the functions of `r8_core` give these equations, of every core, lent memory and argument; and `r8_core::fresh` gives
--- a fresh core (proved as `contracts_kept`). `Learnt` is what the `ensures` of a function come to, for its callers; it takes the lifetimes
--- of the references (κ), the arguments, the result, and the arguments again, at exit, when the lent memory M has become M'
-abbrev pub ContractsKept : Type 0
-ContractsKept =
-    (c next : Core) (text M M' : Bor (List ℕ)) (b : ℕ) (l : LoadReply) (r : RunReply) (v : ViewReply) (κ κ' : List ℕ)
-    → (contract-of-fresh.Learnt tt tt next tt → next ≡ fresh_core)
-    × (contract-of-reset.Learnt tt (c, tt) next (c, tt) → Kept reset next c M.now)
-    × (contract-of-load.Learnt (κ, (κ', tt)) (c, (text, (M, tt))) l (c, (text, (M', tt))) → Kept (load text.now) (l, M'.now) c M.now)
-    × (contract-of-run.Learnt (κ, tt) (c, (b, (M, tt))) r (c, (b, (M', tt))) → Kept (run b) (r, M'.now) c M.now)
-    × (contract-of-step.Learnt (κ, tt) (c, (M, tt)) r (c, (M', tt)) → Kept step (r, M'.now) c M.now)
-    × (contract-of-view.Learnt tt (c, tt) v (c, tt) → Kept view v c M.now)
-
--- and they ask nothing of their callers: `Asked` is what the `requires` come to (proved as `nothing_asked`)
-abbrev pub NothingAsked : Type 0
-NothingAsked =
-    (c : Core) (text M : Bor (List ℕ)) (b : ℕ) (κ κ' : List ℕ)
-    → contract-of-fresh.Asked tt tt
-    × contract-of-reset.Asked tt (c, tt)
-    × contract-of-load.Asked (κ, (κ', tt)) (c, (text, (M, tt)))
-    × contract-of-run.Asked (κ, tt) (c, (b, (M, tt)))
-    × contract-of-step.Asked (κ, tt) (c, (M, tt))
-    × contract-of-view.Asked tt (c, tt)

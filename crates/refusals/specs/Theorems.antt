@@ -34,6 +34,6 @@ FirstExactly =
     (tests : List (ℕ × Bool)) (numbers : List (ℕ × Type 0)) → MeanAll tests numbers
     → (n : ℕ) → ((first_number tests ≡ n) × (n ≡ 0 → ⊥)) ↔ First n numbers
 
--- 'this paper's number .. for each of its cases': each has its own, so that the number says which it is (proved as `Numbers-apart`)
+-- 'this paper's number .. for each of its cases': each has its own, so that the number says which it is (proved as `numbers_apart`)
 abbrev pub NumbersApart : Type 0
 NumbersApart = (x y : Refusal) → refusal_number x ≡ refusal_number y → x ≡ y

@@ -1,5 +1,6 @@
 // Replay plays a list of calls that is given as data, and answers as the instruction machine of document 01 does.
 #![tactic(auto)]
+
 ghost use Rattle.std.specs.Prelude.{◌≡◌, List, ◌++◌, ℕ, ◌≤◌, length, take, drop};
 ghost use Rattle.layout.specs.Layout.{onto_if_room, numbered, gave};
 ghost use Rattle.machine.specs.Theorem.{reply_to};
@@ -102,6 +103,7 @@ fn read_call(kind: u64, first: u64, second: u64, size: usize) -> ReadCall
 }
 
 // The call at the front of some numbers; fewer than three are none.
+#[tactic(auto, using(crate::proofs::Readings::front_short, crate::proofs::Readings::front_long, crate::proofs::Readings::whole_when))]
 fn front_call(calls: &[u64], size: usize) -> ReadCall
     ensures value { result ≡ front_call calls.now size }
     ensures fits { ReadFits size result }
@@ -189,6 +191,7 @@ pub fn play_call(
 }
 
 // Writes an answer's numbers from a place on.
+#[tactic(auto, using(layout::proofs::Onto::into_part))]
 fn put_at(answers: &mut [u64], to: usize, numbers: [u64; 23])
     requires { to ≤ length answers.old }
     ensures { answers.new ≡ take to answers.old ++ onto_if_room numbers (drop to answers.old) }

@@ -10,7 +10,7 @@ use lib.ListN.{length, take, drop}
 use lib.Seq.{take_at}
 use Rattle.lines.specs.Lines.{lines}
 use Rattle.lines.specs.Theorems.{start_after}
-use Rattle.machine.specs.Theorem.{Call, reset, load, run, step, view}
+use Rattle.machine.specs.Theorem.{reset, load, run, step, view}
 use Rattle.replay.specs.Replay.{read_from}
 use Rattle.script.specs.Commands.{command_of}
 use Rattle.script.specs.Script.{is_load, is_end, inside, meaning_of, after_outside, after_inside, place_after, Script, calls, unreadable, call, followed, script_from, script_of, numbers_of, gave, script_read}

@@ -8,7 +8,7 @@ use native.Mathlib.Omega.{arith}
 use borrow.Author.Tests.{ltb-true}
 use lib.Dec.{eqb, ltb, lit≤}
 use lib.ListN.{length, drop}
-use Rattle.lines.specs.Lines.{line_feed, space, prepend, lines, ends}
+use Rattle.lines.specs.Lines.{line_feed, space, prepend, lines, ends, byte_at, number_at}
 use Rattle.lines.specs.Theorems.{start_after}
 use Rattle.script.specs.Commands.{reset_word, load_word, end_word, step_word, view_word, run_word, listing_word, begins, says, decimal_of, run_of, listing_of, listing_at, with_numbers, command_of}
 use Rattle.script.specs.Script.{meaning_of, place_after, Call, call, Script, calls, unreadable, called, followed, at_end, script_from, script_of}
@@ -83,7 +83,7 @@ unfolding with_numbers listing_at
 numbers_fair line =
     when (begins run_word line) (λ e. run_fair (decimal_of (drop 4 line)) (decimal_small (drop 4 line)) (begins_length run_word line e))
     (when (begins listing_word line)
-    (λ e. listing_fair _ _ (decimal_of (drop 5 (drop 8 line))) (decimal_small (drop 5 (drop 8 line))) (omega (arith, begins_length listing_word line e)))
+    (λ e. listing_fair (number_at (drop 8 line) 0) (byte_at (drop 8 line) 4) (decimal_of (drop 5 (drop 8 line))) (decimal_small (drop 5 (drop 8 line))) (omega (arith, begins_length listing_word line e)))
     (none (length line)))
 
 pub command_fair : (line : List ℕ) → Fair (command_of line) (length line)

@@ -1,5 +1,6 @@
 // Scripts: calls as lines of text, read into the numbers that replay::replay takes, and listings among them.
 #![tactic(auto)]
+
 ghost use Rattle.std.specs.Prelude.{◌≡◌, ◌+◌, ◌*◌, ◌≤◌, ◌<◌, length};
 ghost use Rattle.script.specs.Commands.{begins, says, is_digit, value_of, decimal_of, run_of, listing_of, listing_at, with_numbers, command_of};
 ghost use Rattle.script.specs.Script.{outside, is_load, is_end, inside, meaning_of, after_outside, after_inside, place_after, followed, script_of, gave, script_read};
@@ -10,7 +11,7 @@ ghost use Rattle.script.specs.ScriptParts.{script_at, Within, verdict_of, at_end
 pub const LISTING: u64 = 100;
 
 // What one line says.
-#[derive(Drop)]
+#[derive(Clone, Copy)]
 enum Command {
     // Spaces or none, then nothing or a comment: skipped.
     Blank,
@@ -32,7 +33,7 @@ enum Decimal {
 }
 
 // Outside a load; or inside one, with the number of its line and the offset at which its listing starts.
-#[derive(Drop)]
+#[derive(Clone, Copy)]
 enum Place {
     Outside,
     Inside { number: usize, from: usize },
@@ -47,7 +48,7 @@ enum Meaning {
 }
 
 // Where a line starts: its offset, its number, from 1, and its place.
-#[derive(Drop)]
+#[derive(Clone, Copy)]
 struct LineStart {
     at: usize,
     number: usize,
@@ -77,6 +78,7 @@ pub enum ScriptAnswer {
     NoRoom,
 }
 
+#[tactic(auto, using(crate::proofs::Words::begins_further, crate::proofs::Words::begins_other, crate::proofs::Words::begins_short, crate::proofs::Words::begins_all))]
 fn begins_with(word: &[u8], line: &[u8]) -> bool
     ensures { result ≡ begins word.now line.now }
 {
@@ -94,6 +96,7 @@ fn begins_with(word: &[u8], line: &[u8]) -> bool
 }
 
 // The word, then the end of a line.
+#[tactic(auto, using(crate::proofs::Words::begins_length), unfolding(crate::specs::Commands::says))]
 fn is_word(word: &[u8], line: &[u8]) -> bool
     ensures { result ≡ says word.now line.now }
 {
@@ -104,6 +107,7 @@ fn is_word(word: &[u8], line: &[u8]) -> bool
     false
 }
 
+#[tactic(auto, unfolding(crate::specs::Commands::is_digit))]
 fn is_digit(b: u8) -> bool
     ensures { result ≡ is_digit b }
 {
@@ -114,6 +118,7 @@ fn is_digit(b: u8) -> bool
 }
 
 // A value, its digits followed by the end of the line or not.
+#[tactic(auto, unfolding(crate::specs::Commands::value_of))]
 fn value_of(value: u64, ended: bool) -> Decimal
     ensures { result ≡ value_of value ended }
 {
@@ -186,6 +191,7 @@ fn listing_of(first: u32, between: u8, count: Decimal) -> Command
 }
 
 // What follows `listing` and its space.
+#[tactic(auto, unfolding(crate::specs::Commands::listing_at, crate::specs::Commands::decimal_of, crate::specs::Commands::is_digit))]
 fn read_listing(s: &[u8]) -> Command
     ensures { result ≡ listing_at s.now }
 {
@@ -196,6 +202,7 @@ fn read_listing(s: &[u8]) -> Command
 }
 
 // The commands with numbers behind their word.
+#[tactic(auto, using(crate::proofs::Words::begins_length), unfolding(crate::specs::Commands::with_numbers))]
 fn read_with_numbers(line: &[u8]) -> Command
     ensures { result ≡ with_numbers line.now }
 {
@@ -209,6 +216,7 @@ fn read_with_numbers(line: &[u8]) -> Command
 }
 
 // The commands that are a word alone, then those with numbers.
+#[tactic(auto, unfolding(crate::specs::Commands::command_of))]
 fn read_command(line: &[u8]) -> Command
     ensures { result ≡ command_of line.now }
 {
