@@ -1,4 +1,4 @@
-/* The R8 simulator for other languages: link libr8.a (`rt staticlib r8` writes target/staticlib/libr8.a).
+/* The R8 simulator for other languages: link libr8.a (tests/library/build writes target/staticlib/libr8.a).
  *
  * A slice is passed as a pointer and a count of elements. A null pointer is allowed where the count is 0; at is never null. What a function
  * can write (a slice without const, and *at) may overlap nothing else that it is given. 'Number 1' and the like mean a refusal's number of

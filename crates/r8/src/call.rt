@@ -141,9 +141,8 @@ fn put(reply: RunReply, registers: &mut [u16], state: &mut [u32], answer: &mut [
 }
 
 // b datapath cycles, fewer if the core stops.
-#[tactic(auto, unfolding(crate::specs::Call::called, crate::specs::Call::code_of))]
-#[unsafe(no_mangle)]
-pub extern "C" fn r8_run(
+#[tactic(auto, unfolding(crate::specs::Call::called))]
+pub fn r8_run(
     registers: &mut [u16],
     state: &mut [u32],
     b: u32,
@@ -162,9 +161,8 @@ pub extern "C" fn r8_run(
 }
 
 // One instruction by the instruction engine.
-#[tactic(auto, unfolding(crate::specs::Call::called, crate::specs::Call::code_of))]
-#[unsafe(no_mangle)]
-pub extern "C" fn r8_step(
+#[tactic(auto, unfolding(crate::specs::Call::called))]
+pub fn r8_step(
     registers: &mut [u16],
     state: &mut [u32],
     memory: &mut [u16],

@@ -23,8 +23,7 @@ fn form_numbers(form: Form) -> [u16; 7]
 }
 
 #[tactic(auto, unfolding(crate::specs::Form::formed))]
-#[unsafe(no_mangle)]
-pub extern "C" fn r8_form(word: u16, form: &mut [u16]) -> u32
+pub fn r8_form(word: u16, form: &mut [u16]) -> u32
     ensures { (result, form.new) ≡ formed word form.old }
 {
     if form.len() < 7 {

@@ -1,5 +1,5 @@
-// The simulator for other languages, as include/r8.h declares it. No function has a `requires`: each checks what it is given, and returns
-// a code other than 0 where that does not fit. That slices do not overlap is the caller's part.
+// The simulator for other languages, on numbers and slices: `r8_c` exports these functions to C, as include/r8.h declares them. No function
+// has a `requires`: each checks what it is given, and returns a code other than 0 where that does not fit.
 #![tactic(auto)]
 
 mod codes; // what the functions return

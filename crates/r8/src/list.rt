@@ -30,8 +30,7 @@ fn place_of(answer: ReplayAnswer) -> u64
     }
 }
 
-#[unsafe(no_mangle)]
-pub extern "C" fn r8_replay(
+pub fn r8_replay(
     calls: &[u64],
     text: &[u8],
     memory: &mut [u16],

@@ -36,8 +36,7 @@ fn put_found(found: TraceAnswer, answer: &mut [u64]) -> u32
 }
 
 #[tactic(auto, unfolding(crate::specs::Trace::traced_returned))]
-#[unsafe(no_mangle)]
-pub extern "C" fn r8_trace(listing: &[u8], rows: &mut [u64], answer: &mut [u64]) -> u32
+pub fn r8_trace(listing: &[u8], rows: &mut [u64], answer: &mut [u64]) -> u32
     ensures { trace_returned result rows.new answer.new ≡ traced_returned listing.now rows.old answer.old }
 {
     if 65536 < listing.len() {

@@ -17,8 +17,7 @@ fn code_of(answer: DumpAnswer) -> u32
     }
 }
 
-#[unsafe(no_mangle)]
-pub extern "C" fn r8_listing(memory: &[u16], first: usize, count: usize, text: &mut [u8]) -> u32
+pub fn r8_listing(memory: &[u16], first: usize, count: usize, text: &mut [u8]) -> u32
     ensures { (result, text.new) ≡ dump_returned (dumped memory.now first count text.old) }
 {
     let answer = dump::listing(memory, first, count, text);
