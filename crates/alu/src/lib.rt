@@ -1,5 +1,6 @@
 // Arithmetic with flags: what o 0 to 8 and SL0 to NOT give, value and N, Z, C, V.
 #![tactic(auto)]
+
 ghost use Rattle.std.specs.Prelude.{◌≡◌};
 ghost use Rattle.alu.specs.Flags.{bit15, sets_nz, sets_all, sum_overflows, difference_overflows, added, subtracted};
 ghost use Rattle.alu.specs.Results.{binary_result, constant_result, unary_result};

@@ -1,6 +1,7 @@
 // What an instruction does to the values that it can reach: by the instruction table at once, and cycle by cycle, of cycle 2 whether it stops
 // and what RA and RB are after it. There is no core here: the caller hands in the registers that the word names, and writes back what comes out.
 #![tactic(auto)]
+
 ghost use Rattle.std.specs.Prelude.{◌≡◌};
 ghost use Rattle.alu.specs.Flags.{silent as quiet};
 ghost use Rattle.effects.specs.Effect.{to_rt, to_pc, to_sp, stopping, storing, arithmetic_result, loaded, pushed};

@@ -1,5 +1,6 @@
 // Words written in four hexadecimal digits.
 #![tactic(auto)]
+
 ghost use Rattle.std.specs.Prelude.{◌≡◌};
 ghost use Rattle.hexadecimal.specs.Digits.{hex_digit, word_text};
 

@@ -1,5 +1,6 @@
 // The instruction set of document 01: kinds, fields, conditions, targets and cycle counts.
 #![tactic(auto)]
+
 ghost use Rattle.std.specs.Prelude.{◌≡◌};
 ghost use Rattle.isa.specs.Fields.{field_o, field_t, field_a, field_b, field_k, d10, d12};
 ghost use Rattle.isa.specs.Control.{taken, address, jump_target, call_target, second_register};

@@ -1,5 +1,6 @@
 // Why a call is refused before it starts, the number of each refusal, and the first that applies.
 #![tactic(auto)]
+
 ghost use Rattle.std.specs.Prelude.{◌≡◌};
 ghost use Rattle.refusals.specs.Refusals.{refusal_number, wrong_length, or_else};
 ghost use Rattle.refusals.specs.declared.Verdict.TheVariants.{Taken};
