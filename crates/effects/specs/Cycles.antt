@@ -37,7 +37,7 @@ stop_of Push = Going
 stop_of (Jump condition target) = Going
 stop_of (Call target) = Going
 
--- cycle 3, 'RALU takes ..' and 'Flags change here': h has IR, Ra, RB and RALU, and what RALU takes and the flags come out. 'NOP changes
+-- cycle 3, 'RALU takes ..' and 'Flags change here': h has IR, RA, RB and RALU, and what RALU takes and the flags come out. 'NOP changes
 -- nothing'; nor does a HALT or undefined word here, which only a core that no call made can have in this cycle: RALU is as it was
 abbrev pub calculated : Kind → Hidden → Effect → Outcome
 calculated Undefined h x = silent h.ralu x.flags
@@ -73,7 +73,7 @@ written_back Push h M x = pushed h.rb x
 written_back (Jump condition target) h M x = jumped (taken condition x.flags) h.ralu x
 written_back (Call target) h M x = to_pc h.ralu (pushed x.pc x)
 
--- cycle 2, 'stop .. Otherwise Ra takes ..; RB takes ..': what Ra or RB is after it, by the stop state that it sets
+-- cycle 2, 'stop .. Otherwise RA takes ..; RB takes ..': what RA or RB is after it, by the stop state that it sets
 abbrev pub unless_stopping : Stop → ℕ → ℕ → ℕ
 unless_stopping Going new old = new
 unless_stopping Halted new old = old
@@ -81,13 +81,13 @@ unless_stopping stop.TheVariants.Undefined new old = old
 
 -- what the cycles of the instruction w leave in the hidden registers, RALU with the value v
 abbrev pub hidden_after : Stop → ℕ → ℕ → ℕ → ℕ → Hidden → Hidden
-hidden_after s w Ra RB v h = with_ralu v (with_ra_rb (unless_stopping s Ra h.ra) (unless_stopping s RB h.rb) (with_ir w h))
+hidden_after s w RA RB v h = with_ralu v (with_ra_rb (unless_stopping s RA h.ra) (unless_stopping s RB h.rb) (with_ir w h))
 
 -- a whole instruction: what it does, and what its cycles leave in RALU
 abbrev pub leaving : ℕ → Effect → Executed
 leaving RALU x = record { effect = x; ralu = RALU }
 
--- what the table says of it, and the value that cycle 3 gives RALU, from IR, Ra and RB as latched: RB takes Rt's value or Rb's, as the kind has it
+-- what the table says of it, and the value that cycle 3 gives RALU, from IR, RA and RB as latched: RB takes Rt's value or Rb's, as the kind has it
 abbrev pub whole_instruction : Kind → ℕ → ℕ → ℕ → Hidden → List ℕ → Effect → Executed
 whole_instruction k w ra rb h M x =
     leaving (calculated k (with_ra_rb ra (second_register k x.rt rb) (with_ir w h)) x).value (executed k w ra rb M x)

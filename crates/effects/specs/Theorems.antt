@@ -42,7 +42,7 @@ EffectParts =
 
 -- hidden registers with these parts; and each setter of Hidden sets its own and leaves all others (proved as `hidden_parts`)
 abbrev pub HiddenHas : ℕ → ℕ → ℕ → ℕ → Hidden → Type 0
-HiddenHas IR Ra RB RALU h = (h.ir ≡ IR) × (h.ra ≡ Ra) × (h.rb ≡ RB) × (h.ralu ≡ RALU)
+HiddenHas IR RA RB RALU h = (h.ir ≡ IR) × (h.ra ≡ RA) × (h.rb ≡ RB) × (h.ralu ≡ RALU)
 
 abbrev pub HiddenParts : Type 0
 HiddenParts =
@@ -61,7 +61,7 @@ AsCycles Full k h M x whole =
     (stop_of k ≡ Going)
     × (whole ≡ written_back k (with_ralu (calculated k h x).value h) M (to_flags (calculated k h x).flags x))
 
--- for every kind, word in IR and register bank: Ra and RB are as cycle 2 latches them, for any fields t, a and b (proved as `cycles_agree`)
+-- for every kind, word in IR and register bank: RA and RB are as cycle 2 latches them, for any fields t, a and b (proved as `cycles_agree`)
 abbrev pub CyclesAgree : Type 0
 CyclesAgree =
     (k : Kind) (t a b : ℕ) (register : ℕ → ℕ) (M : List ℕ) (h : Hidden) (x : Effect) → x.rt ≡ register t

@@ -27,7 +27,7 @@ working_of pc sp flags hidden stop left =
     record { pc = pc; sp = sp; flags = flags; hidden = hidden; stop = stop; left = record { 0 = left } }
 
 -- the state that whole instructions start from, with a budget b; what an instruction sees of state and bank; and the core of the two after
--- some cycles, with all else as it is in `r8_core`
+-- some cycles, with all else as it is in `core`
 abbrev pub working_from : ℕ → Core → Working
 working_from b core = working_of core.pc core.sp core.flags core.hidden core.stop b
 

@@ -33,7 +33,7 @@ use Rattle.r8_core.specs.declared.Core.{Core}
 use Rattle.r8_core.specs.declared.Transition.{Transition}
 use Rattle.r8_core.proofs.Cycles.{within_clock, first_cycle, later, second_cycle, third_cycle, fourth_cycle}
 use Rattle.reference.specs.Notation.{word, k, d10, ◌⊕◌, NZ, plain}
-use Rattle.reference.specs.Cycles.{set_stop, ends, R, PC, Ra, RB, latch, alu, aim, jump, Row, CyclesExactly}
+use Rattle.reference.specs.Cycles.{set_stop, ends, R, PC, RA, RB, latch, alu, aim, jump, Row, CyclesExactly}
 use Rattle.reference.proofs.Fields as fields
 use Rattle.reference.proofs.Fields.{kind_by}
 use Rattle.reference.proofs.Instructions.{sum_said, difference_said}
@@ -240,8 +240,8 @@ cycles_exactly c M room ra rb t a b u q ht ha hb hu hq =
     let none = none c M room in
     record {
       fetch = λ d. within_clock M c room ∙ first_cycle M c d ∙ ap (λ (n : ℕ). record { core = with_clock (c.clock.0 + 1) (with_due (n + 1) (fetched M c)); finished = false; store = Nothing }) d;
-      ADD = calculating _ _ _ _ _ (sum_said (Ra c M) (RB c M) ra rb) (row 0x0 t a b (t / 4) (lit< tt) ht ha hb refl);
-      SUB = calculating _ _ _ _ _ (difference_said (Ra c M) (RB c M) ra rb) (row 0x1 t a b (t / 4) (lit< tt) ht ha hb refl);
+      ADD = calculating _ _ _ _ _ (sum_said (RA c M) (RB c M) ra rb) (row 0x0 t a b (t / 4) (lit< tt) ht ha hb refl);
+      SUB = calculating _ _ _ _ _ (difference_said (RA c M) (RB c M) ra rb) (row 0x1 t a b (t / 4) (lit< tt) ht ha hb refl);
       AND = row 0x2 t a b (t / 4) (lit< tt) ht ha hb refl;
       OR = row 0x3 t a b (t / 4) (lit< tt) ht ha hb refl;
       XOR = row 0x4 t a b (t / 4) (lit< tt) ht ha hb refl;
@@ -251,9 +251,9 @@ cycles_exactly c M room ra rb t a b u q ht ha hb hu hq =
       LDH = calculating _ _ _ _ _ (ap (λ (x : ℕ). plain f (x * 256 + RB c M % 256)) (fields.field_k_lem 0x8 t a b (lit< tt) ht ha hb)) (row 0x8 t a b (t / 4) (lit< tt) ht ha hb refl);
       LD = row 0x9 t a b (t / 4) (lit< tt) ht ha hb refl;
       ST = still _ t _ _ _ refl (row 0xA t a b (t / 4) (lit< tt) ht ha hb refl);
-      SL0 = calculating _ _ _ _ _ (ap (λ (x : ℕ). NZ f (x % 65536)) (add-zero (Ra c M * 2))) (row 0xB t a 0x0 (t / 4) (lit< tt) ht ha (lit< tt) refl);
+      SL0 = calculating _ _ _ _ _ (ap (λ (x : ℕ). NZ f (x % 65536)) (add-zero (RA c M * 2))) (row 0xB t a 0x0 (t / 4) (lit< tt) ht ha (lit< tt) refl);
       SL1 = row 0xB t a 0x1 (t / 4) (lit< tt) ht ha (lit< tt) refl;
-      SR0 = calculating _ _ _ _ _ (ap (NZ f) (zero-add (Ra c M / 2))) (row 0xB t a 0x2 (t / 4) (lit< tt) ht ha (lit< tt) refl);
+      SR0 = calculating _ _ _ _ _ (ap (NZ f) (zero-add (RA c M / 2))) (row 0xB t a 0x2 (t / 4) (lit< tt) ht ha (lit< tt) refl);
       SR1 = row 0xB t a 0x3 (t / 4) (lit< tt) ht ha (lit< tt) refl;
       NOT = row 0xB t a 0x4 (t / 4) (lit< tt) ht ha (lit< tt) refl;
       NOP = still _ t _ _ _ refl (row 0xB t a 0x5 (t / 4) (lit< tt) ht ha (lit< tt) refl);
@@ -262,16 +262,16 @@ cycles_exactly c M room ra rb t a b u q ht ha hb hu hq =
       RTS = still _ t _ _ _ refl (row 0xB t a 0x8 (t / 4) (lit< tt) ht ha (lit< tt) refl);
       POP = row 0xB t a 0x9 (t / 4) (lit< tt) ht ha (lit< tt) refl;
       PUSH = still _ t _ _ _ refl (row 0xB t a 0xA (t / 4) (lit< tt) ht ha (lit< tt) refl);
-      JMPR = jumps _ t a 0x0 true (PC c M ⊕ Ra c M) _ refl (row 0xC t a 0x0 (t / 4) (lit< tt) ht ha (lit< tt) refl);
-      JMPNR = jumps _ t a 0x1 f.n (PC c M ⊕ Ra c M) _ refl (row 0xC t a 0x1 (t / 4) (lit< tt) ht ha (lit< tt) refl);
-      JMPZR = jumps _ t a 0x2 f.z (PC c M ⊕ Ra c M) _ refl (row 0xC t a 0x2 (t / 4) (lit< tt) ht ha (lit< tt) refl);
-      JMPCR = jumps _ t a 0x3 f.c (PC c M ⊕ Ra c M) _ refl (row 0xC t a 0x3 (t / 4) (lit< tt) ht ha (lit< tt) refl);
-      JMPVR = jumps _ t a 0x4 f.v (PC c M ⊕ Ra c M) _ refl (row 0xC t a 0x4 (t / 4) (lit< tt) ht ha (lit< tt) refl);
-      JMP = jumps _ t a 0x5 true (Ra c M) _ refl (row 0xC t a 0x5 (t / 4) (lit< tt) ht ha (lit< tt) refl);
-      JMPN = jumps _ t a 0x6 f.n (Ra c M) _ refl (row 0xC t a 0x6 (t / 4) (lit< tt) ht ha (lit< tt) refl);
-      JMPZ = jumps _ t a 0x7 f.z (Ra c M) _ refl (row 0xC t a 0x7 (t / 4) (lit< tt) ht ha (lit< tt) refl);
-      JMPC = jumps _ t a 0x8 f.c (Ra c M) _ refl (row 0xC t a 0x8 (t / 4) (lit< tt) ht ha (lit< tt) refl);
-      JMPV = jumps _ t a 0x9 f.v (Ra c M) _ refl (row 0xC t a 0x9 (t / 4) (lit< tt) ht ha (lit< tt) refl);
+      JMPR = jumps _ t a 0x0 true (PC c M ⊕ RA c M) _ refl (row 0xC t a 0x0 (t / 4) (lit< tt) ht ha (lit< tt) refl);
+      JMPNR = jumps _ t a 0x1 f.n (PC c M ⊕ RA c M) _ refl (row 0xC t a 0x1 (t / 4) (lit< tt) ht ha (lit< tt) refl);
+      JMPZR = jumps _ t a 0x2 f.z (PC c M ⊕ RA c M) _ refl (row 0xC t a 0x2 (t / 4) (lit< tt) ht ha (lit< tt) refl);
+      JMPCR = jumps _ t a 0x3 f.c (PC c M ⊕ RA c M) _ refl (row 0xC t a 0x3 (t / 4) (lit< tt) ht ha (lit< tt) refl);
+      JMPVR = jumps _ t a 0x4 f.v (PC c M ⊕ RA c M) _ refl (row 0xC t a 0x4 (t / 4) (lit< tt) ht ha (lit< tt) refl);
+      JMP = jumps _ t a 0x5 true (RA c M) _ refl (row 0xC t a 0x5 (t / 4) (lit< tt) ht ha (lit< tt) refl);
+      JMPN = jumps _ t a 0x6 f.n (RA c M) _ refl (row 0xC t a 0x6 (t / 4) (lit< tt) ht ha (lit< tt) refl);
+      JMPZ = jumps _ t a 0x7 f.z (RA c M) _ refl (row 0xC t a 0x7 (t / 4) (lit< tt) ht ha (lit< tt) refl);
+      JMPC = jumps _ t a 0x8 f.c (RA c M) _ refl (row 0xC t a 0x8 (t / 4) (lit< tt) ht ha (lit< tt) refl);
+      JMPV = jumps _ t a 0x9 f.v (RA c M) _ refl (row 0xC t a 0x9 (t / 4) (lit< tt) ht ha (lit< tt) refl);
       JSRR = still _ t _ _ _ refl (row 0xC t a 0xA (t / 4) (lit< tt) ht ha (lit< tt) refl);
       JSR = still _ t _ _ _ refl (row 0xC t a 0xB (t / 4) (lit< tt) ht ha (lit< tt) refl);
       JMPD = short 0xD a b u q true (lit< tt) ha hb hu hq (λ r. r);

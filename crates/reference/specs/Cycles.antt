@@ -21,7 +21,7 @@ on change s = record { core = change s.core; finished = s.finished; store = s.st
 abbrev pub set_m : ℕ → ℕ → Transition → Transition
 set_m x v s = record { core = s.core; finished = s.finished; store = Word x v }
 
--- 'Rt takes ..', 'PC takes ..', 'SP takes ..', 'RALU takes ..' with the flags; 'IR takes ..'; 'Ra takes ..; RB takes ..'; 'stop'
+-- 'Rt takes ..', 'PC takes ..', 'SP takes ..', 'RALU takes ..' with the flags; 'IR takes ..'; 'RA takes ..; RB takes ..'; 'stop'
 abbrev pub set_r : ℕ → ℕ → Transition → Transition
 set_r t x = on (λ c. with_regs (set c.regs t x) c)
 
@@ -65,8 +65,8 @@ module _ (c : Core) (M : List ℕ) where
   abbrev pub SP : ℕ
   SP = c.sp
 
-  abbrev pub Ra : ℕ
-  Ra = c.hidden.ra
+  abbrev pub RA : ℕ
+  RA = c.hidden.ra
 
   abbrev pub RB : ℕ
   RB = c.hidden.rb
@@ -74,7 +74,7 @@ module _ (c : Core) (M : List ℕ) where
   abbrev pub RALU : ℕ
   RALU = c.hidden.ralu
 
-  -- cycle 2: 'Ra takes Ra', and RB takes the register i
+  -- cycle 2: 'RA takes Ra', and RB takes the register i
   abbrev pub latch : ℕ → ℕ → Transition
   latch a i = due 3 ▹ set_rab (R a) (R i)
 
@@ -112,40 +112,40 @@ module _ (c : Core) (M : List ℕ) where
   -- for all digits t, a, b; u is bits 9-8 of D and E, and q bits 11-10 of D. A row's word, then its cycles 2, 3 and 4
   pub record Cycles (t a b u q : ℕ) : Type 0 where
     pub fetch : c.due ≡ 1 → cycle_or_idle M c ≡ due 2 ▹ set_ir (at PC) ▹ set_pc (PC ⊕ 1)
-    pub ADD : Row (word 0x0 t a b) (latch a b) (alu (added Ra RB)) (back t)
-    pub SUB : Row (word 0x1 t a b) (latch a b) (alu (subtracted Ra RB)) (back t)
-    pub AND : Row (word 0x2 t a b) (latch a b) (nz (bit_and Ra RB)) (back t)
-    pub OR : Row (word 0x3 t a b) (latch a b) (nz (bit_or Ra RB)) (back t)
-    pub XOR : Row (word 0x4 t a b) (latch a b) (nz (bit_xor Ra RB)) (back t)
+    pub ADD : Row (word 0x0 t a b) (latch a b) (alu (added RA RB)) (back t)
+    pub SUB : Row (word 0x1 t a b) (latch a b) (alu (subtracted RA RB)) (back t)
+    pub AND : Row (word 0x2 t a b) (latch a b) (nz (bit_and RA RB)) (back t)
+    pub OR : Row (word 0x3 t a b) (latch a b) (nz (bit_or RA RB)) (back t)
+    pub XOR : Row (word 0x4 t a b) (latch a b) (nz (bit_xor RA RB)) (back t)
     pub ADDI : Row (word 0x5 t a b) (latch a t) (alu (added RB (k a b))) (back t)
     pub SUBI : Row (word 0x6 t a b) (latch a t) (alu (subtracted RB (k a b))) (back t)
     pub LDL : Row (word 0x7 t a b) (latch a t) (value (RB / 256 * 256 + k a b)) (back t)
     pub LDH : Row (word 0x8 t a b) (latch a t) (value (k a b * 256 + RB % 256)) (back t)
-    pub LD : Row (word 0x9 t a b) (latch a b) (value (Ra ⊕ RB)) (ends ▹ set_r t (at RALU))
-    pub ST : Row (word 0xA t a b) (latch a b) (value (Ra ⊕ RB)) (ends ▹ set_m RALU (R t))
-    pub SL0 : Row (word 0xB t a 0x0) (latch a 0x0) (nz (Ra * 2 % 65536)) (back t)
-    pub SL1 : Row (word 0xB t a 0x1) (latch a 0x1) (nz ((Ra * 2 + 1) % 65536)) (back t)
-    pub SR0 : Row (word 0xB t a 0x2) (latch a 0x2) (nz (Ra / 2)) (back t)
-    pub SR1 : Row (word 0xB t a 0x3) (latch a 0x3) (nz (32768 + Ra / 2)) (back t)
-    pub NOT : Row (word 0xB t a 0x4) (latch a 0x4) (nz (65535 - Ra)) (back t)
+    pub LD : Row (word 0x9 t a b) (latch a b) (value (RA ⊕ RB)) (ends ▹ set_r t (at RALU))
+    pub ST : Row (word 0xA t a b) (latch a b) (value (RA ⊕ RB)) (ends ▹ set_m RALU (R t))
+    pub SL0 : Row (word 0xB t a 0x0) (latch a 0x0) (nz (RA * 2 % 65536)) (back t)
+    pub SL1 : Row (word 0xB t a 0x1) (latch a 0x1) (nz ((RA * 2 + 1) % 65536)) (back t)
+    pub SR0 : Row (word 0xB t a 0x2) (latch a 0x2) (nz (RA / 2)) (back t)
+    pub SR1 : Row (word 0xB t a 0x3) (latch a 0x3) (nz (32768 + RA / 2)) (back t)
+    pub NOT : Row (word 0xB t a 0x4) (latch a 0x4) (nz (65535 - RA)) (back t)
     pub NOP : Row (word 0xB t a 0x5) (latch a 0x5) ends ends
     pub HALT : Row (word 0xB t a 0x6) (ends ▹ set_stop Halted) ends ends
-    pub LDSP : Row (word 0xB t a 0x7) (latch a 0x7) (value Ra) (ends ▹ set_sp RALU)
+    pub LDSP : Row (word 0xB t a 0x7) (latch a 0x7) (value RA) (ends ▹ set_sp RALU)
     pub RTS : Row (word 0xB t a 0x8) (latch a 0x8) (value (SP ⊕ 1)) (ends ▹ set_pc (at RALU) ▹ set_sp RALU)
     pub POP : Row (word 0xB t a 0x9) (latch a 0x9) (value (SP ⊕ 1)) (ends ▹ set_r t (at RALU) ▹ set_sp RALU)
     pub PUSH : Row (word 0xB t a 0xA) (latch a t) (value RB) (ends ▹ set_m SP RB ▹ set_sp (SP ⊖ 1))
-    pub JMPR : Row (word 0xC t a 0x0) (latch a 0x0) (value (PC ⊕ Ra)) (ends ▹ set_pc RALU)
-    pub JMPNR : Row (word 0xC t a 0x1) (latch a 0x1) (aim c.flags.n (PC ⊕ Ra)) (jump c.flags.n)
-    pub JMPZR : Row (word 0xC t a 0x2) (latch a 0x2) (aim c.flags.z (PC ⊕ Ra)) (jump c.flags.z)
-    pub JMPCR : Row (word 0xC t a 0x3) (latch a 0x3) (aim c.flags.c (PC ⊕ Ra)) (jump c.flags.c)
-    pub JMPVR : Row (word 0xC t a 0x4) (latch a 0x4) (aim c.flags.v (PC ⊕ Ra)) (jump c.flags.v)
-    pub JMP : Row (word 0xC t a 0x5) (latch a 0x5) (value Ra) (ends ▹ set_pc RALU)
-    pub JMPN : Row (word 0xC t a 0x6) (latch a 0x6) (aim c.flags.n Ra) (jump c.flags.n)
-    pub JMPZ : Row (word 0xC t a 0x7) (latch a 0x7) (aim c.flags.z Ra) (jump c.flags.z)
-    pub JMPC : Row (word 0xC t a 0x8) (latch a 0x8) (aim c.flags.c Ra) (jump c.flags.c)
-    pub JMPV : Row (word 0xC t a 0x9) (latch a 0x9) (aim c.flags.v Ra) (jump c.flags.v)
-    pub JSRR : Row (word 0xC t a 0xA) (latch a 0xA) (value (PC ⊕ Ra)) call
-    pub JSR : Row (word 0xC t a 0xB) (latch a 0xB) (value Ra) call
+    pub JMPR : Row (word 0xC t a 0x0) (latch a 0x0) (value (PC ⊕ RA)) (ends ▹ set_pc RALU)
+    pub JMPNR : Row (word 0xC t a 0x1) (latch a 0x1) (aim c.flags.n (PC ⊕ RA)) (jump c.flags.n)
+    pub JMPZR : Row (word 0xC t a 0x2) (latch a 0x2) (aim c.flags.z (PC ⊕ RA)) (jump c.flags.z)
+    pub JMPCR : Row (word 0xC t a 0x3) (latch a 0x3) (aim c.flags.c (PC ⊕ RA)) (jump c.flags.c)
+    pub JMPVR : Row (word 0xC t a 0x4) (latch a 0x4) (aim c.flags.v (PC ⊕ RA)) (jump c.flags.v)
+    pub JMP : Row (word 0xC t a 0x5) (latch a 0x5) (value RA) (ends ▹ set_pc RALU)
+    pub JMPN : Row (word 0xC t a 0x6) (latch a 0x6) (aim c.flags.n RA) (jump c.flags.n)
+    pub JMPZ : Row (word 0xC t a 0x7) (latch a 0x7) (aim c.flags.z RA) (jump c.flags.z)
+    pub JMPC : Row (word 0xC t a 0x8) (latch a 0x8) (aim c.flags.c RA) (jump c.flags.c)
+    pub JMPV : Row (word 0xC t a 0x9) (latch a 0x9) (aim c.flags.v RA) (jump c.flags.v)
+    pub JSRR : Row (word 0xC t a 0xA) (latch a 0xA) (value (PC ⊕ RA)) call
+    pub JSR : Row (word 0xC t a 0xB) (latch a 0xB) (value RA) call
     pub JMPD : Row (word 0xD (q * 4 + u) a b) (latch a b) (value (PC ⊕ d10 u a b)) (ends ▹ set_pc RALU)
     pub JMPND : Row (word 0xE (0x0 + u) a b) (latch a b) (aim c.flags.n (PC ⊕ d10 u a b)) (jump c.flags.n)
     pub JMPZD : Row (word 0xE (0x4 + u) a b) (latch a b) (aim c.flags.z (PC ⊕ d10 u a b)) (jump c.flags.z)
@@ -154,7 +154,7 @@ module _ (c : Core) (M : List ℕ) where
     pub JSRD : Row (word 0xF t a b) (latch a b) (value (PC ⊕ d12 t a b)) call
     pub undefined : (o : ℕ) → NoInstruction o b → Row (word o t a b) (ends ▹ set_stop Undefined) ends ends
 
--- the page: of every core whose clock has room for a cycle and whose Ra and RB are words, also one that is stopped, on every memory (proved as
+-- the page: of every core whose clock has room for a cycle and whose RA and RB are words, also one that is stopped, on every memory (proved as
 -- `cycles_exactly`)
 abbrev pub CyclesExactly : Type 0
 CyclesExactly =
