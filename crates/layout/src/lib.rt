@@ -22,30 +22,14 @@ pub struct Numbered {
     pub numbers: [u64; 23],
 }
 
-fn wide(word: u16) -> u64
-    ensures { result ≡ word }
-{
-    word as u64
-}
-
-fn bit_of(set: bool) -> u64
-    ensures value { result ≡ bit set }
-    ensures small { result ≤ 1 }
-{
-    if set { 1 } else { 0 }
-}
-
 // 8N+4Z+2C+V.
 pub fn flags_number(flags: Flags) -> u64
     ensures { result ≡ flags_number flags }
 {
-    8 * bit_of(flags.n) + 4 * bit_of(flags.z) + 2 * bit_of(flags.c) + bit_of(flags.v)
-}
-
-fn is_odd(n: u64) -> bool
-    ensures { result ≡ is_odd n }
-{
-    n % 2 == 1
+    8 * u64::from(flags.n)
+        + 4 * u64::from(flags.z)
+        + 2 * u64::from(flags.c)
+        + u64::from(flags.v)
 }
 
 // The flags of such a number, by its last four bits.
@@ -53,10 +37,10 @@ pub fn flags_of(number: u64) -> Flags
     ensures { result ≡ flags_of number }
 {
     Flags {
-        n: is_odd(number / 8),
-        z: is_odd(number / 4),
-        c: is_odd(number / 2),
-        v: is_odd(number),
+        n: number / 8 % 2 == 1,
+        z: number / 4 % 2 == 1,
+        c: number / 2 % 2 == 1,
+        v: number % 2 == 1,
     }
 }
 
@@ -70,13 +54,14 @@ pub fn stop_number(stop: Stop) -> u64
     }
 }
 
-// Four numbers, then zeros.
-fn four(a: u64, b: u64, c: u64, d: u64) -> [u64; 23]
-    ensures { result ≡ padded (a ∷ b ∷ c ∷ d ∷ []) }
+// These numbers, then zeros.
+fn padded<const N: usize>(front: [u64; N]) -> [u64; 23]
+    requires { N ≤ 23 }
+    ensures { result ≡ padded front.entry }
 {
-    [
-        a, b, c, d, 0, 0, 0, 0, 0, 0, 0, 0, 0, 0, 0, 0, 0, 0, 0, 0, 0, 0, 0,
-    ]
+    let mut numbers = [0; 23];
+    numbers[..N].copy_from_slice(&front);
+    numbers
 }
 
 // What a reset answers.
@@ -84,14 +69,14 @@ fn four(a: u64, b: u64, c: u64, d: u64) -> [u64; 23]
 pub fn done_numbers() -> [u64; 23]
     ensures { result ≡ answer_numbers done }
 {
-    four(0, 0, 0, 0)
+    padded([0])
 }
 
 #[tactic(auto, unfolding(crate::specs::Layout::answer_numbers))]
 fn refused_numbers(why: Refusal) -> [u64; 23]
     ensures { result ≡ answer_numbers (refused (refusal_number why)) }
 {
-    four(4, refusals::number(why) as u64, 0, 0)
+    padded([4, u64::from(refusals::number(why))])
 }
 
 #[tactic(auto, unfolding(crate::specs::Layout::answer_numbers))]
@@ -99,14 +84,13 @@ pub fn load_numbers(answer: LoadAnswer) -> [u64; 23]
     ensures { result ≡ answer_numbers (load_answer_of answer) }
 {
     match answer {
-        LoadAnswer::Stored(count) => four(1, count as u64, 0, 0),
+        LoadAnswer::Stored(count) => padded([1, count as u64]),
         LoadAnswer::Refused(why) => refused_numbers(why),
-        LoadAnswer::Faulty(fault, offset) => four(
+        LoadAnswer::Faulty(fault, offset) => padded([
             5,
-            listing::fault_number(fault) as u64,
+            u64::from(listing::fault_number(fault)),
             offset as u64,
-            0,
-        ),
+        ]),
     }
 }
 
@@ -120,61 +104,32 @@ pub fn run_numbers(answer: RunAnswer) -> [u64; 23]
             cycles,
             instructions,
             end,
-        } => four(
+        } => padded([
             2,
-            cycles.0 as u64,
-            instructions.0 as u64,
-            text::letter(end) as u64,
-        ),
+            u64::from(cycles.0),
+            u64::from(instructions.0),
+            u64::from(text::letter(end)),
+        ]),
         RunAnswer::Refused(why) => refused_numbers(why),
     }
 }
 
-// A bank of registers, each as a number of 64 bits.
-fn widened(regs: [u16; 16]) -> [u64; 16]
-    ensures { result ≡ regs }
-{
-    let mut out = [0u64; 16];
-    for i in 0..16 {
-        out[i] = wide(regs[i]);
-    }
-    out
-}
-
 // What is seen of a core, with the case; `due` is the cycle due, or the cycles spent.
+#[tactic(auto, using(crate::proofs::Bank::bank_back))]
 fn seen_numbers(kind: u64, s: Snapshot) -> [u64; 23]
     ensures { result ≡ seen_numbers kind (visible s.regs s.pc s.sp s.flags s.stop) s.due s.clock.0 }
 {
-    let regs = s.regs;
-    let flags = s.flags;
-    let stop = s.stop;
-    let clock = s.clock;
-    let r = widened(regs);
-    [
-        kind,
-        r[0],
-        r[1],
-        r[2],
-        r[3],
-        r[4],
-        r[5],
-        r[6],
-        r[7],
-        r[8],
-        r[9],
-        r[10],
-        r[11],
-        r[12],
-        r[13],
-        r[14],
-        r[15],
-        wide(s.pc),
-        wide(s.sp),
-        flags_number(flags),
-        stop_number(stop),
-        s.due as u64,
-        clock.0 as u64,
-    ]
+    let mut numbers = [kind; 23];
+    numbers[1..17].copy_from_slice(&s.regs.map(u64::from));
+    numbers[17..].copy_from_slice(&[
+        u64::from(s.pc),
+        u64::from(s.sp),
+        flags_number(s.flags),
+        stop_number(s.stop),
+        u64::from(s.due),
+        u64::from(s.clock.0),
+    ]);
+    numbers
 }
 
 #[tactic(auto, unfolding(crate::specs::Layout::answer_numbers))]
@@ -191,22 +146,19 @@ pub fn view_numbers(answer: ViewAnswer, snapshot: Snapshot) -> [u64; 23]
 pub fn left_numbers(core: Core) -> [u64; 23]
     ensures { result ≡ left_numbers (visible_of core) (spent_of core) core.clock.0 }
 {
-    let stop = core.stop;
-    let clock = core.clock;
     let spent = core.spent();
     let seen = if spent == 0 { core } else { r8_core::fresh() };
     let regs = seen.regs;
-    let flags = seen.flags;
     seen_numbers(
         6,
         Snapshot {
-            regs: regs,
+            regs,
             pc: seen.pc,
             sp: seen.sp,
-            flags: flags,
-            stop: stop,
+            flags: seen.flags,
+            stop: core.stop,
             due: spent,
-            clock: clock,
+            clock: core.clock,
         },
     )
 }
@@ -218,9 +170,7 @@ pub fn put(answers: &mut [u64], numbers: [u64; 23])
     if answers.len() < 23 {
         return;
     }
-    for i in 0..23 {
-        answers[i] = numbers[i];
-    }
+    answers[..23].copy_from_slice(&numbers);
 }
 
 // The calls.
