@@ -12,7 +12,7 @@ ghost use Rattle.layout.specs.Layout.{padded, flags_number, is_odd, flags_of, st
 
 use effects::Stop;
 use isa::Flags;
-use r8_core::{Core, LoadAnswer, RunAnswer, Snapshot, ViewAnswer};
+use r8_core::{Core, LoadAnswer, LoadReply, RunAnswer, RunReply, Snapshot, ViewAnswer, ViewReply};
 use refusals::Refusal;
 
 // The next core, and the answer's numbers.
@@ -173,13 +173,47 @@ pub fn put(answers: &mut [u64], numbers: [u64; 23])
     answers[..23].copy_from_slice(&numbers);
 }
 
+// A reply, with its answer as numbers.
+impl From<LoadReply> for Numbered {
+    ghost from_gives = { λ reply n. (n.core ≡ reply.core) × (n.numbers ≡ answer_numbers (load_answer_of reply.answer)) };
+
+    fn from(reply: LoadReply) -> Numbered {
+        Numbered {
+            core: reply.core,
+            numbers: load_numbers(reply.answer),
+        }
+    }
+}
+
+// Of a run or a step.
+impl From<RunReply> for Numbered {
+    ghost from_gives = { λ reply n. (n.core ≡ reply.core) × (n.numbers ≡ answer_numbers (run_answer_of reply.answer)) };
+
+    fn from(reply: RunReply) -> Numbered {
+        Numbered {
+            core: reply.core,
+            numbers: run_numbers(reply.answer),
+        }
+    }
+}
+
+impl From<ViewReply> for Numbered {
+    ghost from_gives = { λ reply n. (n.core ≡ reply.core) × (n.numbers ≡ answer_numbers (view_answer_of reply.answer reply.snapshot)) };
+
+    fn from(reply: ViewReply) -> Numbered {
+        Numbered {
+            core: reply.core,
+            numbers: view_numbers(reply.answer, reply.snapshot),
+        }
+    }
+}
+
 // The calls.
 pub fn reset(core: Core) -> Numbered
     ensures { (memory : List ℕ) → gave result memory ≡ numbered (reset core memory) }
 {
-    let next = core.reset();
     Numbered {
-        core: next,
+        core: core.reset(),
         numbers: done_numbers(),
     }
 }
@@ -187,48 +221,23 @@ pub fn reset(core: Core) -> Numbered
 pub fn load(core: Core, listing: &[u8], memory: &mut [u16]) -> Numbered
     ensures { gave result memory.new ≡ numbered (load listing.now core memory.old) }
 {
-    let reply = core.load(listing, memory);
-    let next = reply.core;
-    let answer = reply.answer;
-    Numbered {
-        core: next,
-        numbers: load_numbers(answer),
-    }
+    core.load(listing, memory).into()
 }
 
 pub fn run(core: Core, b: u32, memory: &mut [u16]) -> Numbered
     ensures { gave result memory.new ≡ numbered (run b core memory.old) }
 {
-    let reply = core.run(b, memory);
-    let next = reply.core;
-    let answer = reply.answer;
-    Numbered {
-        core: next,
-        numbers: run_numbers(answer),
-    }
+    core.run(b, memory).into()
 }
 
 pub fn step(core: Core, memory: &mut [u16]) -> Numbered
     ensures { gave result memory.new ≡ numbered (step core memory.old) }
 {
-    let reply = core.step(memory);
-    let next = reply.core;
-    let answer = reply.answer;
-    Numbered {
-        core: next,
-        numbers: run_numbers(answer),
-    }
+    core.step(memory).into()
 }
 
 pub fn view(core: Core) -> Numbered
     ensures { (memory : List ℕ) → gave result memory ≡ numbered (view core memory) }
 {
-    let reply = core.view();
-    let next = reply.core;
-    let answer = reply.answer;
-    let snapshot = reply.snapshot;
-    Numbered {
-        core: next,
-        numbers: view_numbers(answer, snapshot),
-    }
+    core.view().into()
 }
