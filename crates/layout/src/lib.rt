@@ -12,7 +12,7 @@ ghost use Rattle.layout.specs.Layout.{padded, flags_number, is_odd, flags_of, st
 
 use effects::Stop;
 use isa::Flags;
-use r8_core::{Core, LoadAnswer, LoadReply, RunAnswer, RunReply, Snapshot, ViewAnswer, ViewReply};
+use r8_core::{Core, ListingError, LoadReply, Ran, RunReply, Snapshot, ViewReply};
 use refusals::Refusal;
 
 // The next core, and the answer's numbers.
@@ -76,41 +76,33 @@ pub fn done_numbers() -> [u64; 23]
 fn refused_numbers(why: Refusal) -> [u64; 23]
     ensures { result ≡ answer_numbers (refused (refusal_number why)) }
 {
-    padded([4, u64::from(refusals::number(why))])
+    padded([4, u64::from(u8::from(why))])
 }
 
 #[tactic(auto, unfolding(crate::specs::Layout::answer_numbers))]
-pub fn load_numbers(answer: LoadAnswer) -> [u64; 23]
+pub fn load_numbers(answer: Result<usize, ListingError>) -> [u64; 23]
     ensures { result ≡ answer_numbers (load_answer_of answer) }
 {
     match answer {
-        LoadAnswer::Stored(count) => padded([1, count as u64]),
-        LoadAnswer::Refused(why) => refused_numbers(why),
-        LoadAnswer::Faulty(fault, offset) => padded([
-            5,
-            u64::from(listing::fault_number(fault)),
-            offset as u64,
-        ]),
+        Ok(count) => padded([1, count as u64]),
+        Err(ListingError::Refused(why)) => refused_numbers(why),
+        Err(ListingError::Faulty(at)) => padded([5, u64::from(u8::from(at.fault)), at.offset as u64]),
     }
 }
 
 // What a run or a step answers.
 #[tactic(auto, unfolding(crate::specs::Layout::answer_numbers))]
-pub fn run_numbers(answer: RunAnswer) -> [u64; 23]
+pub fn run_numbers(answer: Result<Ran, Refusal>) -> [u64; 23]
     ensures { result ≡ answer_numbers (run_answer_of answer) }
 {
     match answer {
-        RunAnswer::Ran {
-            cycles,
-            instructions,
-            end,
-        } => padded([
+        Ok(ran) => padded([
             2,
-            u64::from(cycles.0),
-            u64::from(instructions.0),
-            u64::from(text::letter(end)),
+            u64::from(ran.cycles.0),
+            u64::from(ran.instructions.0),
+            u64::from(text::letter(ran.end)),
         ]),
-        RunAnswer::Refused(why) => refused_numbers(why),
+        Err(why) => refused_numbers(why),
     }
 }
 
@@ -133,12 +125,12 @@ fn seen_numbers(kind: u64, s: Snapshot) -> [u64; 23]
 }
 
 #[tactic(auto, unfolding(crate::specs::Layout::answer_numbers))]
-pub fn view_numbers(answer: ViewAnswer, snapshot: Snapshot) -> [u64; 23]
-    ensures { result ≡ answer_numbers (view_answer_of answer snapshot) }
+pub fn view_numbers(answer: Result<Snapshot, Refusal>) -> [u64; 23]
+    ensures { result ≡ answer_numbers (view_answer_of answer) }
 {
     match answer {
-        ViewAnswer::Viewed => seen_numbers(3, snapshot),
-        ViewAnswer::Refused(why) => refused_numbers(why),
+        Ok(snapshot) => seen_numbers(3, snapshot),
+        Err(why) => refused_numbers(why),
     }
 }
 
@@ -167,10 +159,9 @@ pub fn left_numbers(core: Core) -> [u64; 23]
 pub fn put(answers: &mut [u64], numbers: [u64; 23])
     ensures { answers.new ≡ onto_if_room numbers answers.old }
 {
-    if answers.len() < 23 {
-        return;
+    if let Some(front) = answers.first_chunk_mut() {
+        *front = numbers;
     }
-    answers[..23].copy_from_slice(&numbers);
 }
 
 // A reply, with its answer as numbers.
@@ -198,12 +189,12 @@ impl From<RunReply> for Numbered {
 }
 
 impl From<ViewReply> for Numbered {
-    ghost from_gives = { λ reply n. (n.core ≡ reply.core) × (n.numbers ≡ answer_numbers (view_answer_of reply.answer reply.snapshot)) };
+    ghost from_gives = { λ reply n. (n.core ≡ reply.core) × (n.numbers ≡ answer_numbers (view_answer_of reply.answer)) };
 
     fn from(reply: ViewReply) -> Numbered {
         Numbered {
             core: reply.core,
-            numbers: view_numbers(reply.answer, reply.snapshot),
+            numbers: view_numbers(reply.answer),
         }
     }
 }
