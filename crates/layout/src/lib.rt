@@ -2,13 +2,12 @@
 #![tactic(auto)]
 
 ghost use Rattle.std.specs.Prelude.{◌≡◌, List, [], ◌∷◌, ℕ, ◌≤◌};
-ghost use Rattle.words.specs.Arithmetic.{bit};
 ghost use Rattle.r8_core.specs.Calls.{done, refused, reset, load, run, step, view};
 ghost use Rattle.refusals.specs.Refusals.{refusal_number};
 ghost use Rattle.r8_core.specs.Cores.{visible, visible_of};
 ghost use Rattle.r8_core.specs.Spent.{spent_of};
 ghost use Rattle.r8_core.specs.Answers.{load_answer_of, run_answer_of, view_answer_of};
-ghost use Rattle.layout.specs.Layout.{padded, flags_number, is_odd, flags_of, stop_number, seen_numbers, answer_numbers, left_numbers, onto_if_room, numbered, gave};
+ghost use Rattle.layout.specs.Layout.{padded, flags_number, flags_of, stop_number, seen_numbers, answer_numbers, left_numbers, onto_if_room, numbered, gave};
 
 use effects::Stop;
 use isa::Flags;
@@ -22,14 +21,11 @@ pub struct Numbered {
     pub numbers: [u64; 23],
 }
 
-// 8N+4Z+2C+V.
+// 8N+4Z+2C+V. Functions, since neither flags nor stop states nor numbers are types of this crate, and so no `From` may be written here.
 pub fn flags_number(flags: Flags) -> u64
     ensures { result ≡ flags_number flags }
 {
-    8 * u64::from(flags.n)
-        + 4 * u64::from(flags.z)
-        + 2 * u64::from(flags.c)
-        + u64::from(flags.v)
+    8 * u64::from(flags.n) + 4 * u64::from(flags.z) + 2 * u64::from(flags.c) + u64::from(flags.v)
 }
 
 // The flags of such a number, by its last four bits.
@@ -86,7 +82,11 @@ pub fn load_numbers(answer: Result<usize, ListingError>) -> [u64; 23]
     match answer {
         Ok(count) => padded([1, count as u64]),
         Err(ListingError::Refused(why)) => refused_numbers(why),
-        Err(ListingError::Faulty(at)) => padded([5, u64::from(u8::from(at.fault)), at.offset as u64]),
+        Err(ListingError::Faulty(at)) => padded([
+            5,
+            u64::from(u8::from(at.fault)),
+            at.offset as u64,
+        ]),
     }
 }
 
@@ -135,11 +135,13 @@ pub fn view_numbers(answer: Result<Snapshot, Refusal>) -> [u64; 23]
 }
 
 // What a list of calls left of a core: of the registers and flags, where an instruction is unfinished, those of a fresh one.
+#[tactic(auto, unfolding(crate::specs::Layout::left_numbers))]
 pub fn left_numbers(core: Core) -> [u64; 23]
     ensures { result ≡ left_numbers (visible_of core) (spent_of core) core.clock.0 }
 {
     let spent = core.spent();
     let seen = if spent == 0 { core } else { r8_core::fresh() };
+    // by a name: the borrow checker wants one for an array that goes from a field into another struct
     let regs = seen.regs;
     seen_numbers(
         6,
