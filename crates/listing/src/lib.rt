@@ -10,56 +10,52 @@ ghost use Rattle.listing.specs.Listing.{lowest_after, address_fault, fault_of, w
 use lines::Line;
 
 // What is wrong with a line.
-#[derive(Clone, Copy)]
+#[derive(Clone, Copy, PartialEq, Eq)]
 pub enum Fault {
     IllFormed,
     NotAbove,
     PastEnd,
 }
 
-#[derive(Clone, Copy)]
-enum Verdict {
-    Passed,
-    Failed(Fault),
-}
-
-// How many words were stored; or the first fault and the offset of its line's start.
-#[derive(Clone, Copy)]
-pub enum StoreAnswer {
-    Stored(usize),
-    Refused(Fault, usize),
-}
-
 // The numbers of document 01.
-pub fn fault_number(fault: Fault) -> u8
-    ensures { result ≡ fault_number fault }
-{
-    match fault {
-        Fault::IllFormed => 2,
-        Fault::NotAbove => 3,
-        Fault::PastEnd => 4,
+impl From<Fault> for u8 {
+    ghost from_gives = { λ fault n. n ≡ fault_number fault };
+
+    fn from(fault: Fault) -> u8 {
+        match fault {
+            Fault::IllFormed => 2,
+            Fault::NotAbove => 3,
+            Fault::PastEnd => 4,
+        }
     }
 }
 
-fn judge_address(limit: usize, lowest: u32, address: u16) -> Verdict
+// The first fault of a listing, and the offset of its line's start.
+#[derive(Clone, Copy)]
+pub struct FaultAt {
+    pub fault: Fault,
+    pub offset: usize,
+}
+
+fn judge_address(limit: usize, lowest: u32, address: u16) -> Result<(), Fault>
     ensures { verdict_number result ≡ address_fault limit lowest address }
 {
     if limit <= address as usize {
-        return Verdict::Failed(Fault::PastEnd);
+        return Err(Fault::PastEnd);
     }
     if (address as u32) < lowest {
-        return Verdict::Failed(Fault::NotAbove);
+        return Err(Fault::NotAbove);
     }
-    Verdict::Passed
+    Ok(())
 }
 
-fn judge(limit: usize, lowest: u32, line: Line) -> Verdict
+fn judge(limit: usize, lowest: u32, line: Line) -> Result<(), Fault>
     ensures { verdict_number result ≡ fault_of limit lowest line }
 {
     match line {
-        Line::Blank => Verdict::Passed,
-        Line::Entry { address, word: _ } => judge_address(limit, lowest, address),
-        Line::IllFormed => Verdict::Failed(Fault::IllFormed),
+        Line::Blank => Ok(()),
+        Line::Entry { address, .. } => judge_address(limit, lowest, address),
+        Line::IllFormed => Err(Fault::IllFormed),
     }
 }
 
@@ -68,7 +64,7 @@ fn lowest_after(line: Line, lowest: u32) -> u32
 {
     match line {
         Line::Blank => lowest,
-        Line::Entry { address, word: _ } => address as u32 + 1,
+        Line::Entry { address, .. } => address as u32 + 1,
         Line::IllFormed => lowest,
     }
 }
@@ -87,7 +83,7 @@ fn words_of(line: Line) -> usize
 }
 
 // What a store of the listing answers, with nothing stored yet.
-fn check(listing: &[u8], limit: usize) -> StoreAnswer
+fn check(listing: &[u8], limit: usize) -> Result<usize, FaultAt>
     ensures { store_answer result ≡ listing_answer listing.now limit }
 {
     let mut at = 0;
@@ -96,15 +92,14 @@ fn check(listing: &[u8], limit: usize) -> StoreAnswer
     while at < listing.len() {
         let read = lines::read_line(&listing[at..]);
         let line = read.line;
-        let verdict = judge(limit, lowest, line);
-        if let Verdict::Failed(fault) = verdict {
-            return StoreAnswer::Refused(fault, at);
+        if let Err(fault) = judge(limit, lowest, line) {
+            return Err(FaultAt { fault, offset: at });
         }
         lowest = lowest_after(line, lowest);
         count += words_of(line);
         at += read.length + 1;
     }
-    StoreAnswer::Stored(count)
+    Ok(count)
 }
 
 fn store_line(line: Line, memory: &mut [u16])
@@ -130,16 +125,14 @@ fn store_lines(listing: &[u8], memory: &mut [u16])
     }
 }
 
-// The checked store: a listing with a fault changes nothing. Every length of memory is taken as it is, 0 and above 65,536 too,
-// which number 1 is for.
-pub fn store(listing: &[u8], memory: &mut [u16]) -> StoreAnswer
+// The checked store, which answers how many words were stored: a listing with a fault changes nothing. Every length of memory is taken as it is,
+// 0 and above 65,536 too, which number 1 is for.
+#[tactic(auto, using(crate::proofs::Decided::accepted, crate::proofs::Decided::refuses))]
+pub fn store(listing: &[u8], memory: &mut [u16]) -> Result<usize, FaultAt>
     ensures answer { store_answer result ≡ listing_answer listing.now (length memory.old) }
     ensures memory { memory.new ≡ listing_memory listing.now memory.old }
 {
-    let answer = check(listing, memory.len());
-    match answer {
-        StoreAnswer::Stored(_) => store_lines(listing, memory),
-        StoreAnswer::Refused(_, _) => {}
-    }
-    answer
+    let count = check(listing, memory.len())?;
+    store_lines(listing, memory);
+    Ok(count)
 }

@@ -126,7 +126,7 @@ handed_back reset c M = (done, state c M)
 handed_back (load text) r M = (load_answer_of r.0.answer, state r.0.core r.1)
 handed_back (run b) r M = (run_answer_of r.0.answer, state r.0.core r.1)
 handed_back step r M = (run_answer_of r.0.answer, state r.0.core r.1)
-handed_back view r M = (view_answer_of r.answer r.snapshot, state r.core M)
+handed_back view r M = (view_answer_of r.answer, state r.core M)
 
 abbrev pub as_made : Made → State → Answer × State
 as_made m s = handed_back m.call m.given s.memory

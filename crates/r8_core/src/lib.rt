@@ -5,12 +5,11 @@
 
 ghost use Rattle.std.specs.Prelude.{◌≡◌, true, false, cond, ◌+◌, ◌≤◌, ◌<◌, ltb, set};
 ghost use Rattle.words.specs.Arithmetic.{bit};
-ghost use Rattle.refusals.specs.Refusals.{refusal_number};
 ghost use Rattle.refusals.specs.Verdicts.{verdict_number};
-ghost use Rattle.listing.specs.Answers.{store_answer};
 ghost use Rattle.effects.specs.Effect.{applied};
 ghost use Rattle.effects.specs.Hidden.{no_hidden};
 ghost use Rattle.effects.specs.Cycles.{stop_of};
+ghost use Rattle.r8_core.specs.declared.ListingError.TheVariants.{Refused, Faulty};
 ghost use Rattle.r8_core.specs.Cores.{fresh_core, with_hidden, stopped, visible_of, register, effect_before};
 ghost use Rattle.r8_core.specs.Spent.{spent_of, due_in_range, due_one};
 ghost use Rattle.r8_core.specs.Datapath.{fetched, latched, second, with_result, third, with_effect, due_after, ticked, transition, idle, is_last, later_cycle, due_cycle, cycle_or_idle};
@@ -18,14 +17,14 @@ ghost use Rattle.r8_core.specs.Instruction.{memory_after};
 ghost use Rattle.r8_core.specs.WholeInstructions.{working_from, seen, joined, effect_before_of, executed_of, working_after, working_on, bank_on, has_room, instructions_on, instructions_or_cycle, reached};
 ghost use Rattle.r8_core.specs.Numbers.{is_going, longest, clock_full, view_number, load_number, run_number};
 ghost use Rattle.r8_core.specs.Progress.{starting, cycle_on};
-ghost use Rattle.r8_core.specs.Calls.{ran, refused, load_answer, going_end, end_of, reset, load, run, step, view};
-ghost use Rattle.r8_core.specs.Answers.{load_answer_of, run_answer_of, shown, reset_gave, load_gave, run_gave, view_gave};
+ghost use Rattle.r8_core.specs.Calls.{ran, going_end, end_of, reset, load, run, step, view};
+ghost use Rattle.r8_core.specs.Answers.{run_answer_of, shown, reset_gave, load_gave, run_gave, view_gave};
 
 use alu::Outcome;
 use effects::{Effect, Executed, Hidden, Stop, Store};
 use isa::{Cycles, Flags, Kind};
-use listing::{Fault, StoreAnswer};
-use refusals::{Refusal, Verdict};
+use listing::FaultAt;
+use refusals::Refusal;
 
 // The most cycles that an instruction takes.
 const LONGEST: u32 = 4;
@@ -85,30 +84,35 @@ pub enum End {
     M,
 }
 
-// How many words a load stored; or why it did not start; or the first fault of the listing and the offset of its line's start.
+// What a run or a step that is taken did.
 #[derive(Clone, Copy)]
-pub enum LoadAnswer {
-    Stored(usize),
-    Refused(Refusal),
-    Faulty(Fault, usize),
+pub struct Ran {
+    pub cycles: Cycles,
+    pub instructions: Instructions,
+    pub end: End,
 }
 
-// What a run or a step answers.
+// Why a listing was not loaded, or not written out: the call is refused, or a line is at fault.
 #[derive(Clone, Copy)]
-pub enum RunAnswer {
-    Ran {
-        cycles: Cycles,
-        instructions: Instructions,
-        end: End,
-    },
+pub enum ListingError {
     Refused(Refusal),
+    Faulty(FaultAt),
 }
 
-// A view answers its number, or that the snapshot beside it holds.
-#[derive(Clone, Copy)]
-pub enum ViewAnswer {
-    Viewed,
-    Refused(Refusal),
+impl From<Refusal> for ListingError {
+    ghost from_gives = { λ why e. e ≡ Refused why };
+
+    fn from(why: Refusal) -> ListingError {
+        ListingError::Refused(why)
+    }
+}
+
+impl From<FaultAt> for ListingError {
+    ghost from_gives = { λ at e. e ≡ Faulty at };
+
+    fn from(at: FaultAt) -> ListingError {
+        ListingError::Faulty(at)
+    }
 }
 
 // All of a core but its hidden registers.
@@ -123,26 +127,23 @@ pub struct Snapshot {
     pub clock: Cycles,
 }
 
-// What a call gives back: the next core and the answer. An enum cannot hold a bank of registers, so the core stands beside the answer, and
-// so does what a view shows.
+// What a call gives back: the next core and the answer. A load answers how many words it stored.
 #[derive(Clone, Copy)]
 pub struct LoadReply {
     pub core: Core,
-    pub answer: LoadAnswer,
+    pub answer: Result<usize, ListingError>,
 }
 
 #[derive(Clone, Copy)]
 pub struct RunReply {
     pub core: Core,
-    pub answer: RunAnswer,
+    pub answer: Result<Ran, Refusal>,
 }
 
-// A refused view answers its number alone. The papers leave free what the snapshot then holds: it is that of a fresh core.
 #[derive(Clone, Copy)]
 pub struct ViewReply {
     pub core: Core,
-    pub answer: ViewAnswer,
-    pub snapshot: Snapshot,
+    pub answer: Result<Snapshot, Refusal>,
 }
 
 // A fresh core: zero everywhere, going, with cycle 1 due.
@@ -215,40 +216,49 @@ fn clock_full(clock: Cycles, b: u32) -> bool
     4294967295 < clock.0 as u64 + b as u64
 }
 
-// The number of a view: 7.
-fn view_verdict(ready: bool) -> Verdict
+// Why a view is refused: 7.
+#[tactic(auto, unfolding(crate::specs::Numbers::view_number, refusals::specs::Refusals::first_number))]
+fn view_verdict(ready: bool) -> Result<(), Refusal>
     ensures { verdict_number result ≡ view_number ready }
 {
-    Verdict::Taken.or(Refusal::WrongCycle, !ready)
+    if !ready {
+        return Err(Refusal::WrongCycle);
+    }
+    Ok(())
 }
 
-// The numbers of a load before its lines: 1, 7.
-fn load_verdict(words: usize, ready: bool) -> Verdict
+// Why a load is refused before its lines: 1, 7.
+#[tactic(auto, unfolding(crate::specs::Numbers::load_number, refusals::specs::Refusals::first_number))]
+fn load_verdict(words: usize, ready: bool) -> Result<(), Refusal>
     ensures { verdict_number result ≡ load_number words ready }
 {
-    Verdict::Taken
-        .or(Refusal::WrongLength, refusals::wrong_length(words))
-        .or(Refusal::WrongCycle, !ready)
+    if refusals::wrong_length(words) {
+        return Err(Refusal::WrongLength);
+    }
+    if !ready {
+        return Err(Refusal::WrongCycle);
+    }
+    Ok(())
 }
 
-// The numbers of a run, and of a step with 4 for b: 1, 8, 7, 9.
-fn run_verdict(length: usize, stop: Stop, ready: bool, clock: Cycles, b: u32) -> Verdict
+// Why a run is refused, and a step with 4 for b: 1, 8, 7, 9.
+#[tactic(auto, unfolding(crate::specs::Numbers::run_number, refusals::specs::Refusals::first_number))]
+fn run_verdict(length: usize, stop: Stop, ready: bool, clock: Cycles, b: u32) -> Result<(), Refusal>
     ensures { verdict_number result ≡ run_number length stop ready clock.0 b }
 {
-    Verdict::Taken
-        .or(Refusal::WrongLength, refusals::wrong_length(length))
-        .or(Refusal::Stopped, !is_going(stop))
-        .or(Refusal::WrongCycle, !ready)
-        .or(Refusal::ClockFull, clock_full(clock, b))
-}
-
-fn load_answer(answer: StoreAnswer) -> LoadAnswer
-    ensures { load_answer_of result ≡ load_answer (store_answer answer) }
-{
-    match answer {
-        StoreAnswer::Stored(count) => LoadAnswer::Stored(count),
-        StoreAnswer::Refused(fault, offset) => LoadAnswer::Faulty(fault, offset),
+    if refusals::wrong_length(length) {
+        return Err(Refusal::WrongLength);
     }
+    if !is_going(stop) {
+        return Err(Refusal::Stopped);
+    }
+    if !ready {
+        return Err(Refusal::WrongCycle);
+    }
+    if clock_full(clock, b) {
+        return Err(Refusal::ClockFull);
+    }
+    Ok(())
 }
 
 // The end letter.
@@ -719,40 +729,17 @@ impl Core {
     }
 
     // What a run or a step that is taken answers, beside the core that it leaves.
-    fn ran(self, used: Cycles, finished: Instructions) -> RunReply
-        ensures { (result.core ≡ self) × (run_answer_of result.answer ≡ ran used.0 finished.0 (end_of self.stop (due_one self))) }
+    fn ran(self, cycles: Cycles, instructions: Instructions) -> RunReply
+        ensures { (result.core ≡ self) × (run_answer_of result.answer ≡ ran cycles.0 instructions.0 (end_of self.stop (due_one self))) }
     {
-        let stop = self.stop;
-        let end = end_of(stop, self.one_due());
+        let end = end_of(self.stop, self.one_due());
         RunReply {
             core: self,
-            answer: RunAnswer::Ran {
-                cycles: used,
-                instructions: finished,
-                end: end,
-            },
-        }
-    }
-
-    fn run_refused(self, why: Refusal) -> RunReply
-        ensures { (result.core ≡ self) × (run_answer_of result.answer ≡ refused (refusal_number why)) }
-    {
-        let answer = RunAnswer::Refused(why);
-        RunReply {
-            core: self,
-            answer: answer,
-        }
-    }
-
-    // What a view answers, and what it shows.
-    fn viewed(self, answer: ViewAnswer, seen: Core) -> ViewReply
-        ensures { (result.core ≡ self) × (result.answer ≡ answer) × (result.snapshot ≡ shown seen) }
-    {
-        let snapshot = seen.snapshot();
-        ViewReply {
-            core: self,
-            answer: answer,
-            snapshot: snapshot,
+            answer: Ok(Ran {
+                cycles,
+                instructions,
+                end,
+            }),
         }
     }
 
@@ -766,32 +753,32 @@ impl Core {
     }
 
     // A listing, checked and stored.
-    #[tactic(auto, unfolding(crate::specs::Calls::load))]
     pub fn load(self, text: &[u8], memory: &mut [u16]) -> LoadReply
         ensures { load_gave result memory.new ≡ load text.now self memory.old }
     {
-        let verdict = load_verdict(memory.len(), self.one_due());
-        if let Verdict::Refused(why) = verdict {
-            return LoadReply {
-                core: self,
-                answer: LoadAnswer::Refused(why),
-            };
-        }
         LoadReply {
             core: self,
-            answer: load_answer(listing::store(text, memory)),
+            answer: self.loaded(text, memory),
         }
+    }
+
+    #[tactic(auto, unfolding(crate::specs::Calls::load))]
+    fn loaded(self, text: &[u8], memory: &mut [u16]) -> Result<usize, ListingError>
+        ensures { load_gave (record { core = self; answer = result }) memory.new ≡ load text.now self memory.old }
+    {
+        load_verdict(memory.len(), self.one_due())?;
+        Ok(listing::store(text, memory)?)
     }
 
     // b datapath cycles, fewer if the core stops.
     pub fn run(mut self, b: u32, memory: &mut [u16]) -> RunReply
         ensures { run_gave result memory.new ≡ run b self memory.old }
     {
-        let stop = self.stop;
-        let clock = self.clock;
-        let verdict = run_verdict(memory.len(), stop, self.due_in_range(), clock, b);
-        if let Verdict::Refused(why) = verdict {
-            return self.run_refused(why);
+        if let Err(why) = run_verdict(memory.len(), self.stop, self.due_in_range(), self.clock, b) {
+            return RunReply {
+                core: self,
+                answer: Err(why),
+            };
         }
         let mut used = Cycles(0);
         let mut finished = Instructions(0);
@@ -809,11 +796,11 @@ impl Core {
     pub fn step(mut self, memory: &mut [u16]) -> RunReply
         ensures { run_gave result memory.new ≡ step self memory.old }
     {
-        let stop = self.stop;
-        let clock = self.clock;
-        let verdict = run_verdict(memory.len(), stop, self.one_due(), clock, LONGEST);
-        if let Verdict::Refused(why) = verdict {
-            return self.run_refused(why);
+        if let Err(why) = run_verdict(memory.len(), self.stop, self.one_due(), self.clock, LONGEST) {
+            return RunReply {
+                core: self,
+                answer: Err(why),
+            };
         }
         let one = self.instructions(1, LONGEST, memory);
         let used = one.cycles;
@@ -823,17 +810,21 @@ impl Core {
         self.without_hidden().ran(used, finished)
     }
 
-    // All but the hidden registers; where it is refused, the snapshot is that of a fresh core.
-    #[tactic(auto, unfolding(crate::specs::Calls::view))]
+    // All but the hidden registers.
     pub fn view(self) -> ViewReply
-        ensures reply { view_gave result ≡ view self }
-        ensures snapshot { result.snapshot ≡ shown (cond (due_one self) self fresh_core) }
+        ensures { view_gave result ≡ view self }
     {
-        let verdict = view_verdict(self.one_due());
-        let other = fresh();
-        if let Verdict::Refused(why) = verdict {
-            return self.viewed(ViewAnswer::Refused(why), other);
+        ViewReply {
+            core: self,
+            answer: self.viewed(),
         }
-        self.viewed(ViewAnswer::Viewed, self)
+    }
+
+    #[tactic(auto, unfolding(crate::specs::Calls::view))]
+    fn viewed(self) -> Result<Snapshot, Refusal>
+        ensures { view_gave (record { core = self; answer = result }) ≡ view self }
+    {
+        view_verdict(self.one_due())?;
+        Ok(self.snapshot())
     }
 }

@@ -11,21 +11,19 @@ use Rattle.r8_core.proofs.Core.run.Invariants.{progress}
 use Rattle.r8_core.proofs.Core.run.Goals as goal
 use Rattle.r8_core.proofs.Core.run.Goals.{then-loop-used-test+else-goes, else-loop-used-test}
 
-pub returns-in-Refused : goal.returns-in-Refused
+pub returns-in-Err : goal.returns-in-Err
 unfolding run
-returns-in-Refused c =
+returns-in-Err c =
     let a = c.args in
     let at : Bool → ℕ = λ ready. run_number (length a.memory.now) a.self.stop ready a.self.clock.0 a.b in
-    let number = c.run_verdict-verdict.ensures ∙ ap at c.due_in_range.ensures in
-    let refused = c.run_refused.ensures in
-    (λ j. record { answer = refused.1 j; core = refused.0 j; memory = a.memory.now })
-    ∙ refused_reply _ c.in-Refused.why a.self a.memory.now _ (sym (ap verdict_number c.in-Refused.is) ∙ number)
+    let number = c.run_verdict.ensures ∙ ap at c.due_in_range.ensures in
+    refused_reply _ c.in-Err.why a.self a.memory.now _ (sym (ap verdict_number c.in-Err.is) ∙ number)
 
 pub loop-used-init : goal.loop-used-init
 loop-used-init c =
     let a = c.args in
     let at : Bool → ℕ = λ ready. run_number (length a.memory.now) a.self.stop ready a.self.clock.0 a.b in
-    let number = c.run_verdict-verdict.ensures ∙ ap at c.due_in_range.ensures in
+    let number = c.run_verdict.ensures ∙ ap at c.due_in_range.ensures in
     let none = sym number ∙ ap verdict_number c.in_default.is in
     let ready = ready _ _ _ _ _ none in
     record {
