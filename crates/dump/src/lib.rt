@@ -2,8 +2,6 @@
 #![tactic(auto)]
 
 ghost use Rattle.std.specs.Prelude.{◌≡◌, ◌++◌, ◌+◌, ◌*◌, ◌≤◌, length, drop};
-ghost use Rattle.std.proofs.lemmas.List.Edits.{sets};
-ghost use Rattle.hexadecimal.specs.Digits.{word_text};
 ghost use Rattle.dump.specs.Dump.{entry_text, listing_text, past_end, dump_gave, dumped};
 
 use listing::Fault;
@@ -24,43 +22,28 @@ pub enum DumpAnswer {
 fn past_end(limit: usize, first: usize, count: usize) -> bool
     ensures { result ≡ past_end limit first count }
 {
-    if limit < first {
-        return true;
-    }
-    limit - first < count
+    limit < first || limit - first < count
 }
 
-// A word's four digits, from a place of the text on.
-fn put_word(text: &mut [u8], at: usize, word: u16)
-    requires { at + 4 ≤ length text.old }
-    ensures { text.new ≡ sets text.old at (word_text word) }
+// A line, of ten bytes.
+fn line(address: u16, word: u16) -> [u8; 10]
+    ensures { result ≡ entry_text address word }
 {
-    let digits = hexadecimal::word_text(word);
-    text[at] = digits[0];
-    text[at + 1] = digits[1];
-    text[at + 2] = digits[2];
-    text[at + 3] = digits[3];
-}
-
-// A line, from a place of the text on.
-fn put_line(text: &mut [u8], at: usize, address: u16, word: u16)
-    requires { at + 10 ≤ length text.old }
-    ensures { text.new ≡ sets text.old at (entry_text address word) }
-{
-    put_word(text, at, address);
-    text[at + 4] = b' ';
-    put_word(text, at + 5, word);
-    text[at + 9] = b'\n';
+    let mut line = [b' '; LINE];
+    line[..4].copy_from_slice(&hexadecimal::word_text(address));
+    line[5..9].copy_from_slice(&hexadecimal::word_text(word));
+    line[9] = b'\n';
+    line
 }
 
 // The lines of a range that lies in the memory, into a text that has room for them.
+#[tactic(auto, unfolding(crate::specs::Dump::listing_text))]
 fn put_lines(memory: &[u16], first: usize, count: usize, text: &mut [u8])
     requires { (first + count ≤ length memory.now) × (length memory.now ≤ 65536) × (10 * count ≤ length text.old) }
     ensures { text.new ≡ listing_text memory.now first count ++ drop (10 * count) text.old }
 {
-    for i in 0..count {
-        let address = first + i;
-        put_line(text, LINE * i, address as u16, memory[address]);
+    for (i, word) in memory[first..first + count].iter().enumerate() {
+        text[LINE * i..LINE * (i + 1)].copy_from_slice(&line((first + i) as u16, *word));
     }
 }
 

@@ -4,6 +4,7 @@ use mathlib.Core.List.{List, [], ◌∷◌, ◌++◌}
 use Prim.Native.Nat.{ℕ, ◌+◌, ◌-◌, ◌*◌, ◌<◌, ◌≤◌}
 use native.Mathlib.Omega.{arith}
 use lib.ListN.{length, take, drop, length-append}
+use Rattle.std.specs.Prelude.{Result, Ok, Err, IsOk}
 use Rattle.r8_core.specs.Cores.{visible_of, fresh_core}
 use Rattle.r8_core.specs.Spent.{spent_of}
 use Rattle.r8_core.specs.Calls.{Answer}
@@ -14,7 +15,9 @@ use Rattle.layout.proofs.Onto.{in_two_parts}
 use Rattle.plays.specs.Plays.{play}
 use Rattle.machine.specs.Theorem.{Call, State, state, reply_to, on_core}
 use Rattle.replay.specs.Replay.{Reading, listed, no_call, no_stretch, following, read_then, read_from, read_calls, numbers_then}
-use Rattle.replay.specs.declared.ReadCall.{ReadCall}
+use Rattle.replay.specs.declared.ListedCall.{ListedCall}
+use Rattle.replay.specs.declared.CallFault.{CallFault}
+use Rattle.replay.specs.declared.CallFault.TheVariants.{NoCall, NoStretch}
 use Rattle.replay.proofs.Readings.{reads_at, none_left}
 use Rattle.replay.specs.ReplayParts.{front_call, Playable, AfterPlay, after_play, core_left, core_numbers, core_played}
 
@@ -25,11 +28,18 @@ playable (listed calls) room h = (calls, refl, h)
 playable (no_call i) room h = absurd h
 playable (no_stretch i) room h = absurd h
 
-pub no_call_listed : (calls : List Call) (i : ℕ) → no_call i ≡ listed calls → ⊥
+no_call_listed : (calls : List Call) (i : ℕ) → no_call i ≡ listed calls → ⊥
 no_call_listed calls i e = let z : ◌≡◌ {A = ℕ} 0 1 = cc in omega arith
 
-pub no_stretch_listed : (calls : List Call) (i : ℕ) → no_stretch i ≡ listed calls → ⊥
+no_stretch_listed : (calls : List Call) (i : ℕ) → no_stretch i ≡ listed calls → ⊥
 no_stretch_listed calls i e = let z : ◌≡◌ {A = ℕ} 0 1 = cc in omega arith
+
+-- of calls, each that is read is one
+is_call : (text : List ℕ) (i : ℕ) (r : Result ListedCall CallFault) (rest : Reading) (calls : List Call)
+    → read_then text i r rest ≡ listed calls → IsOk r
+is_call text i (Ok call) rest calls e = refl
+is_call text i (Err NoCall) rest calls e = absurd (no_call_listed calls i e)
+is_call text i (Err NoStretch) rest calls e = absurd (no_stretch_listed calls i e)
 
 -- calls of which the first is known, and those behind it
 split_first : (call : Call) (r : Reading) (calls : List Call) → following call r ≡ listed calls
@@ -107,9 +117,14 @@ starts text calls memory answers core fresh h =
 
 module _ {text calls memory₀ answers₀ : List ℕ} {core : Core} {memory answers : List ℕ} {at to : ℕ} (r : Reached text calls memory₀ answers₀ core memory answers at to) where
   -- what the next is read as
-  pub reads_next : (x : ReadCall) → at < length calls → x ≡ front_call (take (length calls - at) (drop at calls)) (length text)
+  pub reads_next : (x : Result ListedCall CallFault) → at < length calls → x ≡ front_call (take (length calls - at) (drop at calls)) (length text)
       → read_then text r.i x (read_from text (r.i + 1) (drop (at + 3) calls)) ≡ listed r.left
   reads_next x h e = sym (reads_at text r.i calls at x h e) ∙ r.reads
+
+  -- the next is a call
+  pub next_is_call : (x : Result ListedCall CallFault) → at < length calls → x ≡ front_call (take (length calls - at) (drop at calls)) (length text)
+      → IsOk x
+  next_is_call x h e = is_call text r.i x (read_from text (r.i + 1) (drop (at + 3) calls)) r.left (reads_next x h e)
 
   -- one call more
   pub goes_on : (call : Call) (reply : NumberedReply) (next : List ℕ) → at + 3 ≤ length calls

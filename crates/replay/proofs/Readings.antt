@@ -8,17 +8,19 @@ use borrow.Author.Tests.{le-leb, lt-leb}
 use lib.Dec.{leb}
 use lib.ListN.{length, take, drop, get_or, length-drop, drop_of_length-le}
 use lib.Seq.{drop-drop, take_all}
+use Rattle.std.specs.declared.result.Result.{Result}
+use Rattle.std.specs.declared.result.Result.TheVariants.{Ok, Err}
 use Rattle.machine.specs.Theorem.{Call}
 use Rattle.replay.specs.Replay.{read_call, call_of, Reading, listed, no_call, no_stretch, following, read_then, read_from, read_calls}
-use Rattle.replay.specs.ReplayParts.{verdict_of, front_call, ReadWhole}
+use Rattle.replay.specs.ReplayParts.{fault_at, verdict_of, front_call, ReadWhole}
 use Rattle.replay.specs.declared.ListedCall.{ListedCall}
-use Rattle.replay.specs.declared.ReadCall.{ReadCall}
-use Rattle.replay.specs.declared.ReadCall.TheVariants as read_as
-use Rattle.replay.specs.declared.ReplayAnswer.{ReplayAnswer}
-use Rattle.replay.specs.declared.ReplayAnswer.TheVariants.{Played, NoCall, NoStretch, NoRoom}
+use Rattle.replay.specs.declared.CallFault.{CallFault}
+use Rattle.replay.specs.declared.CallFault.TheVariants.{NoCall, NoStretch}
+use Rattle.replay.specs.declared.ReplayError.{ReplayError}
+use Rattle.replay.specs.declared.ReplayError.TheVariants as error
 
 -- the call at the front, where there are three numbers and where not
-pub front_short : (ns : List ℕ) (size : ℕ) → length ns < 3 → read_as.NoCall ≡ front_call ns size
+pub front_short : (ns : List ℕ) (size : ℕ) → length ns < 3 → Err NoCall ≡ front_call ns size
 front_short [] size h = refl
 front_short (a ∷ []) size h = refl
 front_short (a ∷ b ∷ []) size h = refl
@@ -31,13 +33,12 @@ front_long (a ∷ []) size h = absurd (omega arith)
 front_long (a ∷ b ∷ []) size h = absurd (omega arith)
 front_long (a ∷ b ∷ c ∷ rest) size h = refl
 
-pub whole_when : (n : ℕ) (r : ReadCall) → 3 ≤ n → ReadWhole n r
-whole_when n (read_as.Read call) h = h
-whole_when n read_as.NoCall h = tt
-whole_when n read_as.NoStretch h = tt
+pub whole_when : (n : ℕ) (r : Result ListedCall CallFault) → 3 ≤ n → ReadWhole n r
+whole_when n (Ok call) h = h
+whole_when n (Err why) h = tt
 
 -- what is read as a call from a place on is three numbers
-pub read_whole : (ns : List ℕ) (at : ℕ) (r : ReadCall) (call : ListedCall) → at ≤ length ns → r ≡ read_as.Read call
+pub read_whole : (ns : List ℕ) (at : ℕ) (r : Result ListedCall CallFault) (call : ListedCall) → at ≤ length ns → r ≡ Ok call
     → ReadWhole (length (take (length ns - at) (drop at ns))) r
     → at + 3 ≤ length ns
 read_whole ns at r call h e whole =
@@ -56,14 +57,14 @@ reads_on text i (a ∷ b ∷ []) h = refl
 reads_on text i (a ∷ b ∷ c ∷ rest) h = refl
 
 -- of a list, from a place on, with what its front was read as
-pub reads_at : (text : List ℕ) (i : ℕ) (ns : List ℕ) (at : ℕ) (r : ReadCall) → at < length ns
+pub reads_at : (text : List ℕ) (i : ℕ) (ns : List ℕ) (at : ℕ) (r : Result ListedCall CallFault) → at < length ns
     → r ≡ front_call (take (length ns - at) (drop at ns)) (length text)
     → read_from text i (drop at ns) ≡ read_then text i r (read_from text (i + 1) (drop (at + 3) ns))
 reads_at text i ns at r h e =
     let size : length (drop at ns) ≡ length ns - at = length-drop at ns in
     let part : take (length ns - at) (drop at ns) ≡ drop at ns = take_all (length ns - at) (drop at ns) (omega arith) in
     reads_on text i (drop at ns) (omega arith)
-    ∙ ap (λ (x : ReadCall). read_then text i x (read_from text (i + 1) (drop 3 (drop at ns)))) (sym (e ∙ ap (λ (l : List ℕ). front_call l (length text)) part))
+    ∙ ap (λ (x : Result ListedCall CallFault). read_then text i x (read_from text (i + 1) (drop 3 (drop at ns)))) (sym (e ∙ ap (λ (l : List ℕ). front_call l (length text)) part))
     ∙ ap (λ (l : List ℕ). read_then text i r (read_from text (i + 1) l)) (drop-drop 3 at ns)
 
 pub none_left : (text : List ℕ) (i : ℕ) (ns : List ℕ) (at : ℕ) → length ns ≤ at → read_from text i (drop at ns) ≡ listed []
@@ -71,31 +72,37 @@ unfolding read_from
 none_left text i ns at h = ap (read_from text i) (drop_of_length-le ns h)
 
 -- the verdict where n calls were read before
-abbrev pub verdict_from : ℕ → Reading → ℕ → ReplayAnswer
-verdict_from n (listed calls) room = cond (leb (23 * (n + length calls + 1)) room) (Played (n + length calls)) NoRoom
-verdict_from n (no_call i) room = NoCall i
-verdict_from n (no_stretch i) room = NoStretch i
+abbrev pub verdict_from : ℕ → Reading → ℕ → Result ℕ ReplayError
+verdict_from n (listed calls) room = cond (leb (23 * (n + length calls + 1)) room) (Ok (n + length calls)) (Err error.NoRoom)
+verdict_from n (no_call i) room = Err (error.NoCall i)
+verdict_from n (no_stretch i) room = Err (error.NoStretch i)
 
 pub verdict_starts : (r : Reading) (room : ℕ) → verdict_of r room ≡ verdict_from 0 r room
 verdict_starts (listed calls) room =
-    ap (λ (n : ℕ). cond (leb (23 * (n + 1)) room) (Played n) NoRoom) (omega arith)
+    ap (λ (n : ℕ). cond (leb (23 * (n + 1)) room) (Ok n) (Err error.NoRoom)) (omega arith)
 verdict_starts (no_call i) room = refl
 verdict_starts (no_stretch i) room = refl
 
 verdict_goes_on : (n : ℕ) (call : Call) (r : Reading) (room : ℕ) → verdict_from n (following call r) room ≡ verdict_from (n + 1) r room
 verdict_goes_on n call (listed calls) room =
-    ap (λ (m : ℕ). cond (leb (23 * (m + 1)) room) (Played m) NoRoom) (omega arith)
+    ap (λ (m : ℕ). cond (leb (23 * (m + 1)) room) (Ok m) (Err error.NoRoom)) (omega arith)
 verdict_goes_on n call (no_call i) room = refl
 verdict_goes_on n call (no_stretch i) room = refl
 
 -- n calls and no more
-verdict_room : (n room : ℕ) → 23 * (n + 1) ≤ room → verdict_from n (listed []) room ≡ Played n
+verdict_room : (n room : ℕ) → 23 * (n + 1) ≤ room → verdict_from n (listed []) room ≡ Ok n
 verdict_room n room h =
-    ap (λ (m : ℕ). cond (leb (23 * (m + 1)) room) (Played m) NoRoom) (omega arith) ∙ ap (λ (b : Bool). cond b (Played n) NoRoom) (le-leb _ _ h)
+    ap (λ (m : ℕ). cond (leb (23 * (m + 1)) room) (Ok m) (Err error.NoRoom)) (omega arith) ∙ ap (λ (b : Bool). cond b (Ok n) (Err error.NoRoom)) (le-leb _ _ h)
 
-verdict_no_room : (n room : ℕ) → room < 23 * (n + 1) → verdict_from n (listed []) room ≡ NoRoom
+verdict_no_room : (n room : ℕ) → room < 23 * (n + 1) → verdict_from n (listed []) room ≡ Err error.NoRoom
 verdict_no_room n room h =
-    ap (λ (m : ℕ). cond (leb (23 * (m + 1)) room) (Played m) NoRoom) (omega arith) ∙ ap (λ (b : Bool). cond b (Played n) NoRoom) (lt-leb _ _ h)
+    ap (λ (m : ℕ). cond (leb (23 * (m + 1)) room) (Ok m) (Err error.NoRoom)) (omega arith) ∙ ap (λ (b : Bool). cond b (Ok n) (Err error.NoRoom)) (lt-leb _ _ h)
+
+-- a call that is not read
+verdict_fails : (n i : ℕ) (text : List ℕ) (why : CallFault) (rest : Reading) (room : ℕ)
+    → verdict_from n (read_then text i (Err why) rest) room ≡ Err (fault_at why i)
+verdict_fails n i text NoCall rest room = refl
+verdict_fails n i text NoStretch rest room = refl
 
 -- a check under way: the verdict on what is left, with the i calls passed, is that on the whole list
 pub record Passed (text calls : List ℕ) (room at i : ℕ) : Type 0 where
@@ -104,25 +111,29 @@ pub record Passed (text calls : List ℕ) (room at i : ℕ) : Type 0 where
   pub same : verdict_of (read_calls text calls) room ≡ verdict_from i (read_from text i (drop at calls)) room
 
 module _ {text calls : List ℕ} {room at i : ℕ} (p : Passed text calls room at i) where
-  pub finds : (r : ReadCall) → at < length calls → r ≡ front_call (take (length calls - at) (drop at calls)) (length text)
+  finds : (r : Result ListedCall CallFault) → at < length calls → r ≡ front_call (take (length calls - at) (drop at calls)) (length text)
       → verdict_of (read_calls text calls) room ≡ verdict_from i (read_then text i r (read_from text (i + 1) (drop (at + 3) calls))) room
   finds r h e = p.same ∙ ap (λ (x : Reading). verdict_from i x room) (reads_at text i calls at r h e)
 
+  pub fails : (why : CallFault) → at < length calls → Err why ≡ front_call (take (length calls - at) (drop at calls)) (length text)
+      → verdict_of (read_calls text calls) room ≡ Err (fault_at why i)
+  fails why h e = finds (Err why) h e ∙ verdict_fails i i text why (read_from text (i + 1) (drop (at + 3) calls)) room
+
   -- one call more
   pub passes : (call : ListedCall) → at < length calls → at + 3 ≤ length calls
-      → read_as.Read call ≡ front_call (take (length calls - at) (drop at calls)) (length text) → Passed text calls room (at + 3) (i + 1)
+      → Ok call ≡ front_call (take (length calls - at) (drop at calls)) (length text) → Passed text calls room (at + 3) (i + 1)
   passes call h whole e = record {
     within = whole;
     few = omega (arith, p.few);
-    same = finds (read_as.Read call) h e ∙ verdict_goes_on i (call_of text call) (read_from text (i + 1) (drop (at + 3) calls)) room;
+    same = finds (Ok call) h e ∙ verdict_goes_on i (call_of text call) (read_from text (i + 1) (drop (at + 3) calls)) room;
   }
 
   -- no call left
   ended : length calls ≤ at → verdict_of (read_calls text calls) room ≡ verdict_from i (listed []) room
   ended h = p.same ∙ ap (λ (x : Reading). verdict_from i x room) (none_left text i calls at h)
 
-  pub ends_with_room : length calls ≤ at → 23 * (i + 1) ≤ room → verdict_of (read_calls text calls) room ≡ Played i
+  pub ends_with_room : length calls ≤ at → 23 * (i + 1) ≤ room → verdict_of (read_calls text calls) room ≡ Ok i
   ends_with_room h fits = ended h ∙ verdict_room i room fits
 
-  pub ends_without : length calls ≤ at → room < 23 * (i + 1) → verdict_of (read_calls text calls) room ≡ NoRoom
+  pub ends_without : length calls ≤ at → room < 23 * (i + 1) → verdict_of (read_calls text calls) room ≡ Err error.NoRoom
   ends_without h short = ended h ∙ verdict_no_room i room short
