@@ -796,7 +796,13 @@ impl Core {
     pub fn step(mut self, memory: &mut [u16]) -> RunReply
         ensures { run_gave result memory.new ≡ step self memory.old }
     {
-        if let Err(why) = run_verdict(memory.len(), self.stop, self.one_due(), self.clock, LONGEST) {
+        if let Err(why) = run_verdict(
+            memory.len(),
+            self.stop,
+            self.one_due(),
+            self.clock,
+            LONGEST,
+        ) {
             return RunReply {
                 core: self,
                 answer: Err(why),
