@@ -10,7 +10,6 @@ use Rattle.listing.specs.Listing.{listing_answer, listing_memory}
 use Rattle.listing.specs.declared.Fault.{Fault}
 use Rattle.listing.specs.declared.FaultAt.{FaultAt}
 use Rattle.words.specs.Arithmetic.{bit}
-use Rattle.isa.specs.declared.Cycles.{Cycles}
 use Rattle.effects.specs.declared.Stop.TheVariants.{Going, Halted, Undefined}
 use Rattle.effects.specs.declared.Store.TheVariants.{Nothing}
 use Rattle.effects.specs.Effect.{applied}
@@ -22,12 +21,11 @@ use Rattle.r8_core.specs.Answers.{load_answer_of, run_answer_of, view_answer_of,
 use Rattle.r8_core.specs.Datapath.{due_cycle, cycle_or_idle}
 use Rattle.r8_core.specs.declared.Core.{Core}
 use Rattle.r8_core.specs.declared.Transition.{Transition}
-use Rattle.r8_core.specs.declared.Instructions.{Instructions}
 use Rattle.r8_core.specs.declared.End.{End}
 use Rattle.r8_core.specs.declared.End.TheVariants.{H, U, B, M}
 use Rattle.r8_core.specs.declared.Ran.{Ran}
 use Rattle.r8_core.specs.declared.ListingError.{ListingError}
-use Rattle.r8_core.specs.declared.ListingError.TheVariants.{Refused, Faulty}
+use Rattle.r8_core.specs.declared.ListingError.TheVariants.{Faulty}
 use Rattle.r8_core.specs.declared.Snapshot.{Snapshot}
 use Rattle.r8_core.specs.declared.LoadReply.{LoadReply}
 use Rattle.r8_core.specs.declared.RunReply.{RunReply}
