@@ -127,24 +127,21 @@ pub struct Snapshot {
     pub clock: Cycles,
 }
 
-// What a call gives back: the next core and the answer. A load answers how many words it stored.
+// What a call gives back: the next core and the answer.
 #[derive(Clone, Copy)]
-pub struct LoadReply {
+pub struct Answered<A> {
     pub core: Core,
-    pub answer: Result<usize, ListingError>,
+    pub answer: A,
 }
 
-#[derive(Clone, Copy)]
-pub struct RunReply {
-    pub core: Core,
-    pub answer: Result<Ran, Refusal>,
-}
+// How many words a load stored, or why it stored none.
+pub type LoadReply = Answered<Result<usize, ListingError>>;
 
-#[derive(Clone, Copy)]
-pub struct ViewReply {
-    pub core: Core,
-    pub answer: Result<Snapshot, Refusal>,
-}
+// What a run or a step did, or why it is refused.
+pub type RunReply = Answered<Result<Ran, Refusal>>;
+
+// What a view shows, or why it is refused.
+pub type ViewReply = Answered<Result<Snapshot, Refusal>>;
 
 // A fresh core: zero everywhere, going, with cycle 1 due.
 pub fn fresh() -> Core
@@ -649,7 +646,7 @@ impl Core {
         ensures { load_gave result memory.new ≡ load text.now self memory.old }
     {
         let answer = self.loaded(text, memory);
-        LoadReply { core: self, answer }
+        Answered { core: self, answer }
     }
 
     #[tactic(auto, unfolding(crate::specs::Calls::load))]
@@ -665,7 +662,7 @@ impl Core {
         ensures { run_gave result memory.new ≡ run b self memory.old }
     {
         let answer = self.ran(b, memory);
-        RunReply { core: self, answer }
+        Answered { core: self, answer }
     }
 
     fn ran(&mut self, b: u32, memory: &mut [u16]) -> Result<Ran, Refusal>
@@ -692,7 +689,7 @@ impl Core {
         ensures { run_gave result memory.new ≡ step self memory.old }
     {
         let answer = self.stepped(memory);
-        RunReply { core: self, answer }
+        Answered { core: self, answer }
     }
 
     fn stepped(&mut self, memory: &mut [u16]) -> Result<Ran, Refusal>
@@ -713,7 +710,7 @@ impl Core {
         ensures { view_gave result ≡ view self }
     {
         let answer = self.viewed();
-        ViewReply { core: self, answer }
+        Answered { core: self, answer }
     }
 
     #[tactic(auto, unfolding(crate::specs::Calls::view))]
