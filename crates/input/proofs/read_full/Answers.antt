@@ -3,7 +3,7 @@ use Rattle.std.proofs.lemmas.List.{places, take-append-le}
 use Rattle.std.proofs.Math.Seq.{take-append-add}
 use Rattle.std.specs.Io.KnownBytes.{Consumes}
 use Rattle.std.proofs.KnownBytes.{Consumes-trans}
-use Rattle.published.proofs.read_full.Goals as goal
+use Rattle.input.proofs.read_full.Goals as goal
 
 -- the first f + n, where ys stands after the first f of xs
 take_both : (xs ys rest : List ℕ) (f n : ℕ) → f ≤ length xs → n ≤ length ys → take (f + n) (take f xs ++ (ys ++ rest)) ≡ take f xs ++ take n ys
