@@ -1,5 +1,5 @@
 -- What a replay gives by its verdict: the core's play where it is played, which is the machine's by the theorem; else nothing changed.
-use mathlib.Core.Path.{◌≡◌, refl, sym, ap, subst, ◌∙◌}
+use mathlib.Core.Path.{◌≡◌, refl, sym, ap, ◌∙◌}
 use mathlib.Core.Bool.{Bool, true, false, cond}
 use mathlib.Core.List.{List}
 use Prim.Native.Nat.{ℕ, ◌+◌, ◌≤◌}
@@ -7,6 +7,8 @@ use native.Mathlib.Omega.{arith}
 use borrow.Author.Tests.{eqb-true, leb-true, le-leb}
 use lib.Dec.{eqb, leb}
 use lib.ListN.{length, replicate}
+use Rattle.std.specs.declared.result.Result.{Result}
+use Rattle.std.specs.declared.result.Result.TheVariants.{Ok, Err}
 use Rattle.r8_core.specs.Cores.{Visible, visible, visible_of}
 use Rattle.r8_core.specs.Calls.{Answer}
 use Rattle.layout.specs.Layout.{flags_of, seen_numbers, left_numbers, onto}
@@ -16,19 +18,19 @@ use Rattle.machine.specs.Machine.{Machine, cycles_of}
 use Rattle.machine.specs.Theorem.{Call, State, fresh_state, on_core, Agree}
 use Rattle.replay.specs.Replay.{Reading, listed, no_call, no_stretch, numbers_then, machine_left, machine_replay, places_for, replayed, replay_gave}
 use Rattle.replay.specs.ReplayParts.{verdict_of, Playable, after_play, core_left, core_numbers, core_played}
-use Rattle.replay.specs.declared.ReplayAnswer.{ReplayAnswer}
-use Rattle.replay.specs.declared.ReplayAnswer.TheVariants.{Played, NoCall, NoStretch, NoRoom}
+use Rattle.replay.specs.declared.ReplayError.{ReplayError}
+use Rattle.replay.specs.declared.ReplayError.TheVariants as error
 use Rattle.replay.proofs.Plays.{numbers_length}
 use Rattle.machine.proofs.Theorem.{every_list}
 
 -- a verdict that the calls are played
-pub playable_when : (r : Reading) (room n : ℕ) → verdict_of r room ≡ Played n → Playable r room
+pub playable_when : (r : Reading) (room n : ℕ) → verdict_of r room ≡ Ok n → Playable r room
 playable_when (listed calls) room n e = by (leb (places_for calls) room) refl
   where
     by : (b : Bool) → leb (places_for calls) room ≡ b → places_for calls ≤ room
     by true t = leb-true _ _ t
     by false t =
-        let f : NoRoom ≡ Played n = ap (λ (b : Bool). cond b (Played (length calls)) NoRoom) (sym t) ∙ e in
+        let f : Err error.NoRoom ≡ Ok n = ap (λ (b : Bool). cond b (Ok (length calls)) (Err error.NoRoom)) (sym t) ∙ e in
         let z : ◌≡◌ {A = ℕ} 0 1 = cc in
         absurd (omega arith)
 playable_when (no_call i) room n e = let z : ◌≡◌ {A = ℕ} 0 1 = cc in absurd (omega arith)
@@ -53,19 +55,19 @@ left_same c m g =
 -- what is played on the machine is what is played on the core
 pub by_the_core : (calls : List Call) (memory answers : List ℕ)
     → let played : List Answer × State = play on_core calls (fresh_state memory) in
-    machine_replay calls memory answers ≡ replay_gave (Played (length calls)) played.1.memory (onto (core_numbers played) answers)
+    machine_replay calls memory answers ≡ replay_gave (Ok (length calls)) played.1.memory (onto (core_numbers played) answers)
 by_the_core calls memory answers =
     let agree = every_list memory calls in
     let after = sym agree.states.memory in
     let said = sym agree.answers in
     let left = sym (left_same _ _ agree) in
-    λ j. replay_gave (Played (length calls)) (after j) (onto (numbers_then (said j) (left j)) answers)
+    λ j. replay_gave (Ok (length calls)) (after j) (onto (numbers_then (said j) (left j)) answers)
 
 -- a list with places enough is played
 pub is_played : (calls : List Call) (memory answers : List ℕ) → places_for calls ≤ length answers
     → replayed (listed calls) memory answers ≡ machine_replay calls memory answers
 is_played calls memory answers h =
-    ap (λ (b : Bool). cond b (machine_replay calls memory answers) (replay_gave NoRoom memory answers)) (le-leb _ _ h)
+    ap (λ (b : Bool). cond b (machine_replay calls memory answers) (replay_gave (Err error.NoRoom) memory answers)) (le-leb _ _ h)
 
 -- what a list that can be played gives, by the core's play
 by_core : (r : Reading) (memory answers : List ℕ) → Playable r (length answers)
@@ -78,38 +80,34 @@ by_core (listed calls) memory answers h =
     let fits = sym (fitting (core_numbers played) answers (omega arith)) in
     is_played calls memory answers h
     ∙ by_the_core calls memory answers
-    ∙ (λ j. replay_gave (cond (room j) (Played (length calls)) NoRoom) played.1.memory (fits j))
+    ∙ (λ j. replay_gave (cond (room j) (Ok (length calls)) (Err error.NoRoom)) played.1.memory (fits j))
 by_core (no_call i) memory answers h = absurd h
 by_core (no_stretch i) memory answers h = absurd h
 
--- and one that is refused
-abbrev pub NotPlayed : ReplayAnswer → Type 0
-NotPlayed (Played n) = ⊥
-NotPlayed (NoCall i) = Unit
-NotPlayed (NoStretch i) = Unit
-NotPlayed NoRoom = Unit
-
-unchanged : (r : Reading) (memory answers : List ℕ) → NotPlayed (verdict_of r (length answers))
-    → replayed r memory answers ≡ replay_gave (verdict_of r (length answers)) memory answers
-unchanged (listed calls) memory answers h = by (leb (places_for calls) (length answers)) refl
+-- and one that cannot
+unchanged : (r : Reading) (memory answers : List ℕ) (why : ReplayError) → verdict_of r (length answers) ≡ Err why
+    → replay_gave (Err why) memory answers ≡ replayed r memory answers
+unchanged (listed calls) memory answers why e = by (leb (places_for calls) (length answers)) refl
   where
-    by : (b : Bool) → leb (places_for calls) (length answers) ≡ b
-        → replayed (listed calls) memory answers ≡ replay_gave (verdict_of (listed calls) (length answers)) memory answers
-    by true t = absurd (subst NotPlayed (ap (λ (b : Bool). cond b (Played (length calls)) NoRoom) t) h)
+    by : (b : Bool) → leb (places_for calls) (length answers) ≡ b → replay_gave (Err why) memory answers ≡ replayed (listed calls) memory answers
+    by true t =
+        let f : Ok (length calls) ≡ Err why = ap (λ (b : Bool). cond b (Ok (length calls)) (Err error.NoRoom)) (sym t) ∙ e in
+        let z : ◌≡◌ {A = ℕ} 0 1 = cc in
+        absurd (omega arith)
     by false t =
-        ap (λ (b : Bool). cond b (machine_replay calls memory answers) (replay_gave NoRoom memory answers)) t
-        ∙ ap (λ (b : Bool). replay_gave (cond b (Played (length calls)) NoRoom) memory answers) (sym t)
-unchanged (no_call i) memory answers h = refl
-unchanged (no_stretch i) memory answers h = refl
+        let same : Err error.NoRoom ≡ Err why = ap (λ (b : Bool). cond b (Ok (length calls)) (Err error.NoRoom)) (sym t) ∙ e in
+        ap (λ (a : Result ℕ ReplayError). replay_gave a memory answers) (sym same)
+        ∙ ap (λ (b : Bool). cond b (machine_replay calls memory answers) (replay_gave (Err error.NoRoom) memory answers)) (sym t)
+unchanged (no_call i) memory answers why e = ap (λ (a : Result ℕ ReplayError). replay_gave a memory answers) (sym e)
+unchanged (no_stretch i) memory answers why e = ap (λ (a : Result ℕ ReplayError). replay_gave a memory answers) (sym e)
 
 -- what a replay gives back that found this verdict
-module _ (r : Reading) (memory answers : List ℕ) (found : ReplayAnswer) (e : found ≡ verdict_of r (length answers)) where
-  pub as_played : (n : ℕ) (memory' answers' : List ℕ) → found ≡ Played n → core_played r memory answers ≡ after_play memory' answers'
-      → replay_gave found memory' answers' ≡ replayed r memory answers
+module _ (r : Reading) (memory answers : List ℕ) (found : Result ℕ ReplayError) (e : found ≡ verdict_of r (length answers)) where
+  pub as_played : (n : ℕ) (memory' answers' : List ℕ) → found ≡ Ok n → core_played r memory answers ≡ after_play memory' answers'
+      → replay_gave (Ok n) memory' answers' ≡ replayed r memory answers
   as_played n memory' answers' p left =
-      (λ j. replay_gave (e j) (sym left j).memory (sym left j).answers)
+      (λ j. replay_gave ((sym p ∙ e) j) (sym left j).memory (sym left j).answers)
       ∙ sym (by_core r memory answers (playable_when r (length answers) n (sym e ∙ p)))
 
-  pub as_refused : NotPlayed found → replay_gave found memory answers ≡ replayed r memory answers
-  as_refused n =
-      ap (λ (x : ReplayAnswer). replay_gave x memory answers) e ∙ sym (unchanged r memory answers (subst NotPlayed e n))
+  pub as_refused : (why : ReplayError) → found ≡ Err why → replay_gave (Err why) memory answers ≡ replayed r memory answers
+  as_refused why p = unchanged r memory answers why (sym e ∙ p)

@@ -5,6 +5,8 @@ use Prim.Native.Nat.{ℕ, ◌*◌}
 use native.Mathlib.Omega.{arith}
 use lib.ListN.{length, take, drop, length-append}
 use lib.Seq.{take_at, drop_at}
+use Rattle.std.specs.declared.result.Result.{Result}
+use Rattle.std.specs.declared.result.Result.TheVariants.{Ok, Err}
 use Rattle.r8_core.specs.Cores.{visible_of}
 use Rattle.r8_core.specs.Spent.{spent_of}
 use Rattle.r8_core.specs.Calls.{Answer}
@@ -16,8 +18,9 @@ use Rattle.machine.specs.Theorem.{fresh_state, on_core}
 use Rattle.replay.specs.Replay.{read_call, call_of, listed, read_then, read_from, call_played, numbers_then, places_for, Replayed}
 use Rattle.replay.specs.ReplayParts.{core_left, core_numbers}
 use Rattle.replay.specs.Theorems.{CoreTold, Tells, CallTold}
-use Rattle.replay.specs.declared.ReadCall.{ReadCall}
-use Rattle.replay.specs.declared.ReadCall.TheVariants as read_as
+use Rattle.replay.specs.declared.ListedCall.{ListedCall}
+use Rattle.replay.specs.declared.CallFault.{CallFault}
+use Rattle.replay.specs.declared.CallFault.TheVariants.{NoCall, NoStretch}
 use Rattle.replay.proofs.Plays.{numbers_length}
 use Rattle.replay.proofs.Replayed.{is_played, by_the_core}
 
@@ -53,21 +56,21 @@ core_told calls memory answers h =
 
 -- by what the three numbers are read as
 module _ (core : Core) (memory : List ℕ) where
-  tells : (text : List ℕ) (r : ReadCall) → Tells core memory (call_played text r core memory) (read_then text 0 r (listed []))
-  tells text (read_as.Read call) = (
-    λ c e. let same : call_of text call ≡ c = cc in rw (← same) (refl, refl, refl),
+  tells : (text : List ℕ) (r : Result ListedCall CallFault) → Tells core memory (call_played text r core memory) (read_then text 0 r (listed []))
+  tells text (Ok call) = (
+    λ c e. let same : call_of text call ≡ c = cc in rw (← same) (refl, refl),
     λ e. let z : ◌≡◌ {A = ℕ} 0 1 = cc in absurd (omega arith),
     λ e. let z : ◌≡◌ {A = ℕ} 0 1 = cc in absurd (omega arith),
   )
-  tells text read_as.NoCall = (
+  tells text (Err NoCall) = (
     λ c e. let z : ◌≡◌ {A = ℕ} 0 1 = cc in absurd (omega arith),
-    λ e. (refl, refl, refl),
+    λ e. (refl, refl),
     λ e. let z : ◌≡◌ {A = ℕ} 0 1 = cc in absurd (omega arith),
   )
-  tells text read_as.NoStretch = (
+  tells text (Err NoStretch) = (
     λ c e. let z : ◌≡◌ {A = ℕ} 0 1 = cc in absurd (omega arith),
     λ e. let z : ◌≡◌ {A = ℕ} 0 1 = cc in absurd (omega arith),
-    λ e. (refl, refl, refl),
+    λ e. (refl, refl),
   )
 
 pub call_told : CallTold

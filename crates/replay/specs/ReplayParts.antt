@@ -1,5 +1,5 @@
 -- For the functions under `replay`: only contracts of private functions and proofs cite what is here.
-use Rattle.std.specs.Prelude.{cond, List, [], ◌∷◌, ℕ, ◌≤◌, leb, length}
+use Rattle.std.specs.Prelude.{cond, List, [], ◌∷◌, ℕ, ◌≤◌, leb, length, Result, Ok, Err}
 use Rattle.r8_core.specs.Cores.{visible_of}
 use Rattle.r8_core.specs.Spent.{spent_of}
 use Rattle.r8_core.specs.Calls.{Answer}
@@ -10,16 +10,21 @@ use Rattle.machine.specs.Theorem.{State, fresh_state, on_core}
 use Rattle.replay.specs.Replay.{read_call, Reading, listed, no_call, no_stretch, numbers_then, places_for}
 use Rattle.replay.specs.declared.ListedCall.{ListedCall}
 use Rattle.replay.specs.declared.ListedCall.TheVariants as listed_call
-use Rattle.replay.specs.declared.ReadCall.{ReadCall}
-use Rattle.replay.specs.declared.ReadCall.TheVariants as read_as
-use Rattle.replay.specs.declared.ReplayAnswer.{ReplayAnswer}
-use Rattle.replay.specs.declared.ReplayAnswer.TheVariants.{Played, NoCall, NoStretch, NoRoom}
+use Rattle.replay.specs.declared.CallFault.{CallFault}
+use Rattle.replay.specs.declared.CallFault.TheVariants.{NoCall, NoStretch}
+use Rattle.replay.specs.declared.ReplayError.{ReplayError}
+use Rattle.replay.specs.declared.ReplayError.TheVariants as error
+
+-- the fault of the call with an index
+abbrev pub fault_at : CallFault → ℕ → ReplayError
+fault_at NoCall i = error.NoCall i
+fault_at NoStretch i = error.NoStretch i
 
 -- what is found before anything is played
-abbrev pub verdict_of : Reading → ℕ → ReplayAnswer
-verdict_of (listed calls) room = cond (leb (places_for calls) room) (Played (length calls)) NoRoom
-verdict_of (no_call i) room = NoCall i
-verdict_of (no_stretch i) room = NoStretch i
+abbrev pub verdict_of : Reading → ℕ → Result ℕ ReplayError
+verdict_of (listed calls) room = cond (leb (places_for calls) room) (Ok (length calls)) (Err error.NoRoom)
+verdict_of (no_call i) room = Err (error.NoCall i)
+verdict_of (no_stretch i) room = Err (error.NoStretch i)
 
 -- a stretch that is read lies in the text
 abbrev pub FitsIn : ℕ → ListedCall → Type 0
@@ -29,23 +34,17 @@ FitsIn size (listed_call.Run b) = Unit
 FitsIn size listed_call.Step = Unit
 FitsIn size listed_call.View = Unit
 
-abbrev pub ReadFits : ℕ → ReadCall → Type 0
-ReadFits size (read_as.Read call) = FitsIn size call
-ReadFits size read_as.NoCall = Unit
-ReadFits size read_as.NoStretch = Unit
+abbrev pub ReadFits : ℕ → Result ListedCall CallFault → Type 0
+ReadFits size (Ok call) = FitsIn size call
+ReadFits size (Err why) = Unit
 
--- the call at the front of some numbers
-abbrev pub front_call : List ℕ → ℕ → ReadCall
-front_call [] size = read_as.NoCall
-front_call (a ∷ []) size = read_as.NoCall
-front_call (a ∷ b ∷ []) size = read_as.NoCall
-front_call (a ∷ b ∷ c ∷ rest) size = read_call a b c size
-
--- a call that is read has its three numbers
-abbrev pub ReadWhole : ℕ → ReadCall → Type 0
-ReadWhole size (read_as.Read call) = 3 ≤ size
-ReadWhole size read_as.NoCall = Unit
-ReadWhole size read_as.NoStretch = Unit
+-- what a chunk of a list is read as: three numbers; a last chunk may have fewer
+abbrev pub read_chunk : List ℕ → ℕ → Result ListedCall CallFault
+read_chunk [] size = Err NoCall
+read_chunk (a ∷ []) size = Err NoCall
+read_chunk (a ∷ b ∷ []) size = Err NoCall
+read_chunk (a ∷ b ∷ c ∷ []) size = read_call a b c size
+read_chunk (a ∷ b ∷ c ∷ d ∷ more) size = Err NoCall
 
 -- a list that can be played, with room for so many numbers
 abbrev pub Playable : Reading → ℕ → Type 0

@@ -1,11 +1,11 @@
 // Replay plays a list of calls that is given as data, and answers as the instruction machine of document 01 does.
 #![tactic(auto)]
 
-ghost use Rattle.std.specs.Prelude.{◌≡◌, List, ◌++◌, ℕ, ◌≤◌, length, take, drop};
+ghost use Rattle.std.specs.Prelude.{◌≡◌, ◌++◌, ℕ, ◌≤◌, length, take, drop};
 ghost use Rattle.layout.specs.Layout.{onto_if_room, numbered, gave};
 ghost use Rattle.machine.specs.Theorem.{reply_to};
-ghost use Rattle.replay.specs.Replay.{read_stretch, read_budget, read_call, call_of, call_gave, kept, call_played, read_calls, replayed, replay_gave};
-ghost use Rattle.replay.specs.ReplayParts.{front_call, verdict_of, FitsIn, ReadFits, ReadWhole, Playable, core_played, after_play};
+ghost use Rattle.replay.specs.Replay.{read_stretch, read_budget, read_call, call_of, call_gave, call_played, read_calls, replayed, replay_gave};
+ghost use Rattle.replay.specs.ReplayParts.{read_chunk, fault_at, verdict_of, FitsIn, ReadFits, Playable, core_played, after_play};
 
 use layout::Numbered;
 use r8_core::Core;
@@ -20,121 +20,100 @@ enum ListedCall {
     View,
 }
 
-// What three numbers are read as.
-#[derive(Drop)]
-enum ReadCall {
-    Read(ListedCall),
+// Why a single call is not played: it is none of the five, or names no stretch of the text.
+#[derive(Clone, Copy, PartialEq, Eq)]
+pub enum CallFault {
     NoCall,
     NoStretch,
 }
 
-// How many calls were played; or the index, from 0, of the first that is none of the five, or that names no stretch of the text; or, where
-// all are, that the answers do not fit.
-#[derive(Clone, Copy)]
-pub enum ReplayAnswer {
-    Played(usize),
+// Why a list is not played: the index, from 0, of the first call that is none of the five, or that names no stretch of the text; or, where
+// all are calls, that the answers do not fit.
+#[derive(Clone, Copy, PartialEq, Eq)]
+pub enum ReplayError {
     NoCall(usize),
     NoStretch(usize),
     NoRoom,
 }
 
-// Of a single call: it was played; or it is none of the five; or it names no stretch of the text.
-#[derive(Drop)]
-pub enum CallAnswer {
-    Played,
-    NoCall,
-    NoStretch,
-}
-
-// The next core, and what was answered, with its numbers.
+// The next core, and the numbers of what was answered.
 #[derive(Drop)]
 pub struct CallReply {
     pub core: Core,
-    pub answer: CallAnswer,
-    pub numbers: [u64; 23],
+    pub answer: Result<[u64; 23], CallFault>,
 }
 
-fn read_stretch(first: u64, second: u64, size: usize) -> ReadCall
+// The fault of the call with an index.
+fn fault_at(why: CallFault, i: usize) -> ReplayError
+    ensures { result ≡ fault_at why i }
+{
+    match why {
+        CallFault::NoCall => ReplayError::NoCall(i),
+        CallFault::NoStretch => ReplayError::NoStretch(i),
+    }
+}
+
+fn read_stretch(first: u64, second: u64, size: usize) -> Result<ListedCall, CallFault>
     ensures value { result ≡ read_stretch first second size }
     ensures fits { ReadFits size result }
 {
     let from = first as usize;
     let to = second as usize;
-    if to < from {
-        return ReadCall::NoStretch;
+    if from <= to && to <= size {
+        Ok(ListedCall::Load { from, to })
+    } else {
+        Err(CallFault::NoStretch)
     }
-    if size < to {
-        return ReadCall::NoStretch;
-    }
-    ReadCall::Read(ListedCall::Load { from: from, to: to })
 }
 
-fn read_budget(first: u64) -> ReadCall
+fn read_budget(first: u64) -> Result<ListedCall, CallFault>
     ensures value { result ≡ read_budget first }
     ensures fits { (size : ℕ) → ReadFits size result }
 {
-    if 4294967295 < first {
-        return ReadCall::NoCall;
-    }
-    ReadCall::Read(ListedCall::Run(first as u32))
+    let b = u32::try_from(first).map_err(|_| CallFault::NoCall)?;
+    Ok(ListedCall::Run(b))
 }
 
 // A call of three numbers, with the length of the text.
-fn read_call(kind: u64, first: u64, second: u64, size: usize) -> ReadCall
+fn read_call(kind: u64, first: u64, second: u64, size: usize) -> Result<ListedCall, CallFault>
     ensures value { result ≡ read_call kind first second size }
     ensures fits { ReadFits size result }
 {
-    if kind == 0 {
-        return ReadCall::Read(ListedCall::Reset);
+    match kind {
+        0 => Ok(ListedCall::Reset),
+        1 => read_stretch(first, second, size),
+        2 => read_budget(first),
+        3 => Ok(ListedCall::Step),
+        4 => Ok(ListedCall::View),
+        _ => Err(CallFault::NoCall),
     }
-    if kind == 1 {
-        return read_stretch(first, second, size);
-    }
-    if kind == 2 {
-        return read_budget(first);
-    }
-    if kind == 3 {
-        return ReadCall::Read(ListedCall::Step);
-    }
-    if kind == 4 {
-        return ReadCall::Read(ListedCall::View);
-    }
-    ReadCall::NoCall
 }
 
-// The call at the front of some numbers; fewer than three are none.
-#[tactic(auto, using(crate::proofs::Readings::front_short, crate::proofs::Readings::front_long, crate::proofs::Readings::whole_when))]
-fn front_call(calls: &[u64], size: usize) -> ReadCall
-    ensures value { result ≡ front_call calls.now size }
+// The call that a chunk of a list is.
+fn read_chunk(chunk: &[u64], size: usize) -> Result<ListedCall, CallFault>
+    ensures value { result ≡ read_chunk chunk.now size }
     ensures fits { ReadFits size result }
-    ensures whole { ReadWhole (length calls.now) result }
 {
-    if calls.len() < 3 {
-        return ReadCall::NoCall;
-    }
-    read_call(calls[0], calls[1], calls[2], size)
+    let [kind, first, second] = chunk else {
+        return Err(CallFault::NoCall);
+    };
+    read_call(*kind, *first, *second, size)
 }
 
 // Whether a list can be played, with room for so many numbers: 23 for each answer, and 23 for what the list leaves.
-fn check(calls: &[u64], text: &[u8], room: usize) -> ReplayAnswer
+fn check(calls: &[u64], text: &[u8], room: usize) -> Result<usize, ReplayError>
     ensures { result ≡ verdict_of (read_calls text.now calls.now) room }
 {
-    let mut at = 0;
-    let mut i = 0;
-    while at < calls.len() {
-        let read = front_call(&calls[at..], text.len());
-        match read {
-            ReadCall::Read(_) => {}
-            ReadCall::NoCall => return ReplayAnswer::NoCall(i),
-            ReadCall::NoStretch => return ReplayAnswer::NoStretch(i),
+    for (i, chunk) in calls.chunks(3).enumerate() {
+        if let Err(why) = read_chunk(chunk, text.len()) {
+            return Err(fault_at(why, i));
         }
-        at += 3;
-        i += 1;
     }
-    if room / 23 <= i {
-        return ReplayAnswer::NoRoom;
+    let count = calls.len() / 3;
+    if room / 23 <= count {
+        return Err(ReplayError::NoRoom);
     }
-    ReplayAnswer::Played(i)
+    Ok(count)
 }
 
 // One call on a core.
@@ -151,18 +130,8 @@ fn play(core: Core, call: ListedCall, text: &[u8], memory: &mut [u16]) -> Number
     }
 }
 
-fn not_played(core: Core, answer: CallAnswer) -> CallReply
-    ensures { (memory : List ℕ) → call_gave result memory ≡ kept answer core memory }
-{
-    CallReply {
-        core: core,
-        answer: answer,
-        numbers: [0; 23],
-    }
-}
-
 // Plays one call of a list on a core, for callers who go call by call. Where the three numbers are no call, or name no stretch of the
-// text, core and memory stay and the numbers are zero.
+// text, core and memory stay.
 pub fn play_call(
     core: Core,
     kind: u64,
@@ -173,20 +142,18 @@ pub fn play_call(
 ) -> CallReply
     ensures { call_gave result memory.new ≡ call_played text.now (read_call kind first second (length text.now)) core memory.old }
 {
-    let read = read_call(kind, first, second, text.len());
-    match read {
-        ReadCall::Read(call) => {
+    match read_call(kind, first, second, text.len()) {
+        Ok(call) => {
             let played = play(core, call, text, memory);
-            let next = played.core;
-            let numbers = played.numbers;
             CallReply {
-                core: next,
-                answer: CallAnswer::Played,
-                numbers: numbers,
+                core: played.core,
+                answer: Ok(played.numbers),
             }
         }
-        ReadCall::NoCall => not_played(core, CallAnswer::NoCall),
-        ReadCall::NoStretch => not_played(core, CallAnswer::NoStretch),
+        Err(why) => CallReply {
+            core,
+            answer: Err(why),
+        },
     }
 }
 
@@ -199,44 +166,32 @@ fn put_at(answers: &mut [u64], to: usize, numbers: [u64; 23])
     layout::put(&mut answers[to..], numbers);
 }
 
-// Plays a list that `check` has found playable: the two returns are never reached.
+// Plays a list that `check` has found playable: every call is read.
 fn play_all(calls: &[u64], text: &[u8], memory: &mut [u16], answers: &mut [u64])
     requires { Playable (read_calls text.now calls.now) (length answers.old) }
     ensures { core_played (read_calls text.now calls.now) memory.old answers.old ≡ after_play memory.new answers.new }
 {
     let mut core = r8_core::fresh();
-    let mut at = 0;
-    let mut to = 0;
-    while at < calls.len() {
-        let read = front_call(&calls[at..], text.len());
-        match read {
-            ReadCall::Read(call) => {
-                let played = play(core, call, text, memory);
-                let numbers = played.numbers;
-                put_at(answers, to, numbers);
-                let next = played.core;
-                core = next;
-            }
-            ReadCall::NoCall => return,
-            ReadCall::NoStretch => return,
-        }
-        at += 3;
-        to += 23;
+    for (i, chunk) in calls.chunks(3).enumerate() {
+        let call = read_chunk(chunk, text.len()).unwrap();
+        let played = play(core, call, text, memory);
+        put_at(answers, 23 * i, played.numbers);
+        core = played.core;
     }
-    put_at(answers, to, layout::left_numbers(core));
+    put_at(answers, 23 * (calls.len() / 3), layout::left_numbers(core));
 }
 
 // Plays a list of calls on a fresh core and the lent memory, and writes the answers and then what the list left; a list that cannot be
 // played changes nothing. What it answers, writes and leaves in memory is what the instruction machine does.
-pub fn replay(calls: &[u64], text: &[u8], memory: &mut [u16], answers: &mut [u64]) -> ReplayAnswer
+pub fn replay(
+    calls: &[u64],
+    text: &[u8],
+    memory: &mut [u16],
+    answers: &mut [u64],
+) -> Result<usize, ReplayError>
     ensures { replay_gave result memory.new answers.new ≡ replayed (read_calls text.now calls.now) memory.old answers.old }
 {
-    let answer = check(calls, text, answers.len());
-    match answer {
-        ReplayAnswer::Played(_) => play_all(calls, text, memory, answers),
-        ReplayAnswer::NoCall(_) => {}
-        ReplayAnswer::NoStretch(_) => {}
-        ReplayAnswer::NoRoom => {}
-    }
-    answer
+    let count = check(calls, text, answers.len())?;
+    play_all(calls, text, memory, answers);
+    Ok(count)
 }

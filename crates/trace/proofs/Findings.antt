@@ -21,16 +21,14 @@ use Rattle.r8_core.specs.Spent.{due_one}
 use Rattle.r8_core.specs.Progress.{starting, cycles_on}
 use Rattle.r8_core.specs.Calls.{Answer, ran, refused, refused_at, Reply, load_answer, load, loaded_reply, ran_reply, run}
 use Rattle.r8_core.specs.declared.End.{End}
-use Rattle.r8_core.specs.Answers.{load_answer_of, load_gave, run_answer_of, run_gave}
+use Rattle.r8_core.specs.Answers.{LoadReply, RunReply, load_answer_of, load_gave, run_answer_of, run_gave}
 use Rattle.r8_core.specs.declared.Core.{Core}
 use Rattle.r8_core.specs.declared.LoadAnswer.{LoadAnswer}
 use Rattle.r8_core.specs.declared.LoadAnswer.TheVariants.{Stored, Refused, Faulty}
-use Rattle.r8_core.specs.declared.LoadReply.{LoadReply}
 use Rattle.refusals.specs.declared.Refusal.{Refusal}
 use Rattle.r8_core.specs.declared.Instructions.{Instructions}
 use Rattle.r8_core.specs.declared.RunAnswer.{RunAnswer}
 use Rattle.r8_core.specs.declared.RunAnswer.TheVariants.{Ran, Refused as Unrun}
-use Rattle.r8_core.specs.declared.RunReply.{RunReply}
 use Rattle.r8_core.proofs.Taken.{reply_own}
 use Rattle.refusals.proofs.First.{passed, none_left}
 use Rattle.r8_core.proofs.Replies.{run_starts}

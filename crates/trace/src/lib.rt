@@ -3,7 +3,8 @@
 
 ghost use Rattle.std.specs.Prelude.{◌≡◌, ◌∷◌, [], ◌++◌, ◌+◌, ◌*◌, ◌≤◌, length, take, drop};
 ghost use Rattle.r8_core.specs.Answers.{run_answer_of};
-ghost use Rattle.trace.specs.Trace.{cycles_of, rows_of, traced_on, traced, trace_gave};
+ghost use Rattle.r8_core.specs.Calls.{step};
+ghost use Rattle.trace.specs.Trace.{cycles_of, row_of, rows_of, traced_on, traced, trace_gave};
 
 use isa::Cycles;
 use listing::Fault;
@@ -37,36 +38,29 @@ fn cycles_of(answer: RunAnswer) -> Cycles
     }
 }
 
-// Four numbers in their place.
-fn put_row(rows: &mut [u64], at: usize, address: u16, word: u16, cycles: Cycles, flags: u64)
-    requires { at + 4 ≤ length rows.old }
-    ensures { rows.new ≡ take at rows.old ++ (address ∷ word ∷ cycles.0 ∷ flags ∷ []) ++ drop (at + 4) rows.old }
+// Steps the core, and gives the row of the instruction.
+fn row(core: &mut Core, memory: &mut [u16]) -> [u64; 4]
+    ensures { let stepped = step core.old memory.old in (result ≡ row_of core.old memory.old stepped) × (core.new ≡ stepped.core) × (memory.new ≡ stepped.memory) }
 {
-    rows[at] = address as u64;
-    rows[at + 1] = word as u64;
-    rows[at + 2] = cycles.0 as u64;
-    rows[at + 3] = flags;
+    let address = core.pc;
+    let word = words::read(memory, address);
+    let stepped = core.step(memory);
+    *core = stepped.core;
+    [
+        u64::from(address),
+        u64::from(word),
+        u64::from(cycles_of(stepped.answer).0),
+        layout::flags_number(core.flags),
+    ]
 }
 
 // The rows of so many steps.
-fn put_rows(rows: &mut [u64], mut core: Core, count: u32, memory: &mut [u16])
+fn put_rows(rows: &mut [u64], mut core: Core, count: usize, memory: &mut [u16])
     requires { 4 * count ≤ length rows.old }
     ensures { rows.new ≡ rows_of count core memory.old ++ drop (4 * count) rows.old }
 {
-    let mut at: usize = 0;
-    let mut left = count;
-    while left > 0 {
-        let address = core.pc;
-        let word = words::read(memory, address);
-        let stepped = core.step(memory);
-        let next = stepped.core;
-        let answer = stepped.answer;
-        let cycles = cycles_of(answer);
-        let flags = next.flags;
-        put_row(rows, at, address, word, cycles, layout::flags_number(flags));
-        at += 4;
-        core = next;
-        left -= 1;
+    for i in 0..count {
+        rows[4 * i..4 * (i + 1)].copy_from_slice(&row(&mut core, memory));
     }
 }
 
@@ -87,8 +81,8 @@ fn trace_memory(memory: &mut [u16; 16384], rows: &mut [u64]) -> TraceAnswer
     else {
         return TraceAnswer::NoRoom;
     };
-    let count = instructions.0;
-    if (rows.len() as u64) < 4 * (count as u64) {
+    let count = instructions.0 as usize;
+    if rows.len() / 4 < count {
         return TraceAnswer::NoRoom;
     }
     put_rows(rows, core, count, memory);

@@ -11,7 +11,7 @@ use Rattle.r8_core.proofs.Working.instruct.Goals as goal
 
 pub after-next-requires : goal.after-next-requires
 after-next-requires c =
-    omega (arith, c.cost-cycles.ensures, (cost_of_range c.kind_of-kind.result c.args.self.flags).1, c.requires)
+    omega (arith, c.cost.ensures, (cost_of_range c.kind_of-kind.result c.args.self.flags).1, c.requires)
 
 pub returns : goal.returns
 unfolding takes memory_after
@@ -22,7 +22,7 @@ returns c =
     let word = c.read-word.ensures in
     let kind = c.kind_of-kind.ensures ∙ ap kind_of word in
     let done = c.execute-done.ensures ∙ (λ j. executed_of (kind j) (word j) bank M self) in
-    let cycles = c.cost-cycles.ensures ∙ ap (λ (k : Kind). cost_of k self.flags) kind in
+    let cycles = c.cost.ensures ∙ ap (λ (k : Kind). cost_of k self.flags) kind in
     let t = c.field_t.ensures ∙ ap field_t word in (
       c.after-next.ensures ∙ (λ j. working_after (kind j) (word j) bank (done j) (cycles j) self),
       c.set_register.ensures ∙ (λ j. set bank (t j) (done j).effect.rt),
