@@ -420,42 +420,17 @@ impl Core {
         isa::cost(kind, self.flags).0 <= u32::from(self.due)
     }
 
-    // The clock grows by 1; cycle 1 is due after the last cycle of an instruction, else the next one.
-    fn tick(mut self, finished: bool) -> Core
-        requires { (self.clock.0 < 4294967295) × (self.due ≤ 4) }
-        ensures { result ≡ ticked finished self }
-    {
-        self.clock.0 += 1;
-        self.due = if finished { 1 } else { self.due + 1 };
-        self
-    }
-
-    fn transition(self, finished: bool, store: Store) -> Transition
+    // The core after a cycle: the clock grows by 1; cycle 1 is due after the last cycle of an instruction, else the next one.
+    fn transition(mut self, finished: bool, store: Store) -> Transition
         requires { (self.clock.0 < 4294967295) × (self.due ≤ 4) }
         ensures { result ≡ transition finished self store }
     {
+        self.clock.0 += 1;
+        self.due = if finished { 1 } else { self.due + 1 };
         Transition {
-            core: self.tick(finished),
+            core: self,
             finished,
             store,
-        }
-    }
-
-    // One cycle of a core with cycle 2, 3 or 4 due; with another number due nothing happens (run refuses all but 1 to 4).
-    #[tactic(auto, unfolding(crate::specs::Datapath::later_cycle))]
-    fn later_cycle(self, kind: Kind, memory: &[u16]) -> Transition
-        requires { self.clock.0 < 4294967295 }
-        ensures { result ≡ later_cycle kind memory.now self }
-    {
-        let last = self.is_last(kind);
-        match self.due {
-            2 => self.stop_or_latch(kind).transition(last, Store::Nothing),
-            3 => self.calculate(kind).transition(last, Store::Nothing),
-            4 => {
-                let effect = effects::write_back(kind, self.hidden, memory, self.effect_before());
-                self.with_effect(effect).transition(last, effect.store)
-            }
-            _ => self.idle(),
         }
     }
 
@@ -482,8 +457,8 @@ impl Core {
         self.due_cycle(memory)
     }
 
-    // The cycle due, where the clock has room for it.
-    #[tactic(auto, unfolding(crate::specs::Datapath::due_cycle))]
+    // The cycle due, where the clock has room for it; with a number due that is none of 1 to 4 nothing happens (run refuses it).
+    #[tactic(auto, unfolding(crate::specs::Datapath::due_cycle, crate::specs::Datapath::later_cycle))]
     fn due_cycle(self, memory: &[u16]) -> Transition
         requires { self.clock.0 < 4294967295 }
         ensures { result ≡ due_cycle memory.now self }
@@ -491,21 +466,16 @@ impl Core {
         if self.due == 1 {
             return self.fetch(memory).transition(false, Store::Nothing);
         }
-        self.later_cycle(table::kind_of(self.hidden.ir), memory)
-    }
-
-    // One cycle, its store made.
-    #[tactic(auto, unfolding(crate::specs::Progress::cycle_on, crate::specs::Datapath::due_cycle))]
-    fn cycle_on(self, memory: &mut [u16]) -> Moved
-        requires { self.clock.0 < 4294967295 }
-        ensures { reached result memory.new ≡ cycle_on (starting self memory.old) }
-    {
-        let transition = self.due_cycle(memory);
-        apply(transition.store, memory);
-        Moved {
-            core: transition.core,
-            cycles: Cycles(1),
-            instructions: Instructions(u32::from(transition.finished)),
+        let kind = table::kind_of(self.hidden.ir);
+        let last = self.is_last(kind);
+        match self.due {
+            2 => self.stop_or_latch(kind).transition(last, Store::Nothing),
+            3 => self.calculate(kind).transition(last, Store::Nothing),
+            4 => {
+                let effect = effects::write_back(kind, self.hidden, memory, self.effect_before());
+                self.with_effect(effect).transition(last, effect.store)
+            }
+            _ => self.idle(),
         }
     }
 
@@ -558,6 +528,7 @@ impl Core {
     }
 
     // A turn of run's loop: whole instructions where cycle 1 is due and there is room for one, else a cycle.
+    #[tactic(auto, unfolding(crate::specs::Progress::cycle_on, crate::specs::Datapath::due_cycle))]
     fn instructions_or_cycle(self, b: u32, memory: &mut [u16]) -> Moved
         requires { (1 ≤ b) × (self.clock.0 + b ≤ 4294967295) }
         ensures { reached result memory.new ≡ instructions_or_cycle b (starting self memory.old) }
@@ -567,7 +538,13 @@ impl Core {
             let whole = self;
             return whole.instructions(b, b, memory);
         }
-        self.cycle_on(memory)
+        let transition = self.due_cycle(memory);
+        apply(transition.store, memory);
+        Moved {
+            core: transition.core,
+            cycles: Cycles(1),
+            instructions: Instructions(u32::from(transition.finished)),
+        }
     }
 
     // The hidden registers zero.
@@ -684,25 +661,26 @@ impl Core {
         })
     }
 
-    // One instruction by the instruction engine; the hidden registers become zero.
-    pub fn step(mut self, memory: &mut [u16]) -> RunReply
+    // One instruction by the instruction engine; the hidden registers become zero. The core stays by value: a step takes longer where it is lent.
+    pub fn step(self, memory: &mut [u16]) -> RunReply
         ensures { run_gave result memory.new ≡ step self memory.old }
     {
-        let answer = self.stepped(memory);
-        Answered { core: self, answer }
-    }
-
-    fn stepped(&mut self, memory: &mut [u16]) -> Result<Ran, Refusal>
-        ensures { run_gave (record { core = self.new; answer = result }) memory.new ≡ step self.old memory.old }
-    {
-        run_verdict(memory.len(), self.stop, self.one_due(), self.clock, LONGEST)?;
+        if let Err(why) = run_verdict(memory.len(), self.stop, self.one_due(), self.clock, LONGEST) {
+            return Answered {
+                core: self,
+                answer: Err(why),
+            };
+        }
         let one = self.instructions(1, LONGEST, memory);
-        *self = one.core.without_hidden();
-        Ok(Ran {
-            cycles: one.cycles,
-            instructions: one.instructions,
-            end: self.end(),
-        })
+        let core = one.core.without_hidden();
+        Answered {
+            core,
+            answer: Ok(Ran {
+                cycles: one.cycles,
+                instructions: one.instructions,
+                end: core.end(),
+            }),
+        }
     }
 
     // All but the hidden registers.
