@@ -33,8 +33,7 @@ const LONGEST: u32 = 4;
 #[derive(Clone, Copy)]
 pub struct Instructions(pub u32);
 
-// The core. `due` is the cycle due next, 1 to 4 on every core that calls make of a fresh one. A core is written out in `fresh` and `with_stop`
-// alone.
+// The core. `due` is the cycle due next, 1 to 4 on every core that calls make of a fresh one. A core is written out in `fresh` alone.
 #[derive(Clone, Copy)]
 pub struct Core {
     pub regs: [u16; 16],
@@ -203,17 +202,6 @@ fn clock_full(clock: Cycles, b: u32) -> bool
     clock.0.checked_add(b).is_none()
 }
 
-// Why a view is refused: 7.
-#[tactic(auto, unfolding(crate::specs::Numbers::view_number, refusals::specs::Refusals::first_number))]
-fn view_verdict(ready: bool) -> Result<(), Refusal>
-    ensures { verdict_number result ≡ view_number ready }
-{
-    if !ready {
-        return Err(Refusal::WrongCycle);
-    }
-    Ok(())
-}
-
 // Why a load is refused before its lines: 1, 7.
 #[tactic(auto, unfolding(crate::specs::Numbers::load_number, refusals::specs::Refusals::first_number))]
 fn load_verdict(words: usize, ready: bool) -> Result<(), Refusal>
@@ -224,26 +212,6 @@ fn load_verdict(words: usize, ready: bool) -> Result<(), Refusal>
     }
     if !ready {
         return Err(Refusal::WrongCycle);
-    }
-    Ok(())
-}
-
-// Why a run is refused, and a step with 4 for b: 1, 8, 7, 9.
-#[tactic(auto, unfolding(crate::specs::Numbers::run_number, refusals::specs::Refusals::first_number))]
-fn run_verdict(length: usize, stop: Stop, ready: bool, clock: Cycles, b: u32) -> Result<(), Refusal>
-    ensures { verdict_number result ≡ run_number length stop ready clock.0 b }
-{
-    if refusals::wrong_length(length) {
-        return Err(Refusal::WrongLength);
-    }
-    if !is_going(stop) {
-        return Err(Refusal::Stopped);
-    }
-    if !ready {
-        return Err(Refusal::WrongCycle);
-    }
-    if clock_full(clock, b) {
-        return Err(Refusal::ClockFull);
     }
     Ok(())
 }
@@ -332,6 +300,7 @@ impl Working {
 }
 
 impl Core {
+    // The core in another stop state.
     pub fn with_stop(mut self, next: Stop) -> Core
         ensures { result ≡ stopped next self }
     {
@@ -577,24 +546,15 @@ impl Core {
     fn snapshot(self) -> Snapshot
         ensures { result ≡ shown self }
     {
-        let Core {
-            regs,
-            pc,
-            sp,
-            flags,
-            due,
-            stop,
-            clock,
-            ..
-        } = self;
+        let regs = self.regs;
         Snapshot {
             regs,
-            pc,
-            sp,
-            flags,
-            stop,
-            due,
-            clock,
+            pc: self.pc,
+            sp: self.sp,
+            flags: self.flags,
+            stop: self.stop,
+            due: self.due,
+            clock: self.clock,
         }
     }
 
@@ -608,6 +568,26 @@ impl Core {
             Stop::Going if self.one_due() => End::B,
             Stop::Going => End::M,
         }
+    }
+
+    // Why a run is refused, and a step with 4 for b: 1, 8, 7, 9.
+    #[tactic(auto, unfolding(crate::specs::Numbers::run_number, refusals::specs::Refusals::first_number))]
+    fn run_verdict(&self, words: usize, ready: bool, b: u32) -> Result<(), Refusal>
+        ensures { verdict_number result ≡ run_number words self.now.stop ready self.now.clock.0 b }
+    {
+        if refusals::wrong_length(words) {
+            return Err(Refusal::WrongLength);
+        }
+        if !is_going(self.stop) {
+            return Err(Refusal::Stopped);
+        }
+        if !ready {
+            return Err(Refusal::WrongCycle);
+        }
+        if clock_full(self.clock, b) {
+            return Err(Refusal::ClockFull);
+        }
+        Ok(())
     }
 
     // A fresh core for this one.
@@ -645,7 +625,7 @@ impl Core {
     fn ran(&mut self, b: u32, memory: &mut [u16]) -> Result<Ran, Refusal>
         ensures { run_gave (record { core = self.new; answer = result }) memory.new ≡ run b self.old memory.old }
     {
-        run_verdict(memory.len(), self.stop, self.due_in_range(), self.clock, b)?;
+        self.run_verdict(memory.len(), self.due_in_range(), b)?;
         let mut used = Cycles(0);
         let mut finished = Instructions(0);
         while used.0 < b && is_going(self.stop) {
@@ -665,7 +645,7 @@ impl Core {
     pub fn step(self, memory: &mut [u16]) -> RunReply
         ensures { run_gave result memory.new ≡ step self memory.old }
     {
-        if let Err(why) = run_verdict(memory.len(), self.stop, self.one_due(), self.clock, LONGEST) {
+        if let Err(why) = self.run_verdict(memory.len(), self.one_due(), LONGEST) {
             return Answered {
                 core: self,
                 answer: Err(why),
@@ -683,7 +663,7 @@ impl Core {
         }
     }
 
-    // All but the hidden registers.
+    // All but the hidden registers, of a core with cycle 1 due.
     pub fn view(self) -> ViewReply
         ensures { view_gave result ≡ view self }
     {
@@ -691,11 +671,14 @@ impl Core {
         Answered { core: self, answer }
     }
 
-    #[tactic(auto, unfolding(crate::specs::Calls::view))]
+    // A view is refused with 7 alone.
+    #[tactic(auto, unfolding(crate::specs::Calls::view, crate::specs::Numbers::view_number, refusals::specs::Refusals::first_number))]
     fn viewed(self) -> Result<Snapshot, Refusal>
         ensures { view_gave (record { core = self; answer = result }) ≡ view self }
     {
-        view_verdict(self.one_due())?;
+        if !self.one_due() {
+            return Err(Refusal::WrongCycle);
+        }
         Ok(self.snapshot())
     }
 }
