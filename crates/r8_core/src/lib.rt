@@ -284,6 +284,7 @@ impl Working {
         }
     }
 
+    #[tactic(auto, using(crate::proofs::Cycles::cost_of_range), unfolding(crate::specs::Instruction::takes, crate::specs::Instruction::memory_after))]
     // The instruction engine: the instruction at PC, with the bank and the memory changed where they lie.
     fn instruct(self, regs: &mut [u16], memory: &mut [u16]) -> Working
         requires { longest ≤ self.left.0 }
