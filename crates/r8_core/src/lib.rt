@@ -489,10 +489,10 @@ impl Core {
             state = state.instruct(&mut regs, memory);
             more -= 1;
         }
-        let used = Cycles(b - state.left.0);
+        let cycles = Cycles(b - state.left.0);
         Moved {
-            core: self.joined(state, regs, used),
-            cycles: used,
+            core: self.joined(state, regs, cycles),
+            cycles,
             instructions: Instructions(most - more),
         }
     }
@@ -573,10 +573,10 @@ impl Core {
 
     // Why a run is refused, and a step with 4 for b: 1, 8, 7, 9.
     #[tactic(auto, unfolding(crate::specs::Numbers::run_number, refusals::specs::Refusals::first_number))]
-    fn run_verdict(&self, words: usize, ready: bool, b: u32) -> Result<(), Refusal>
-        ensures { verdict_number result ≡ run_number words self.now.stop ready self.now.clock.0 b }
+    fn run_verdict(&self, length: usize, ready: bool, b: u32) -> Result<(), Refusal>
+        ensures { verdict_number result ≡ run_number length self.now.stop ready self.now.clock.0 b }
     {
-        if refusals::wrong_length(words) {
+        if refusals::wrong_length(length) {
             return Err(Refusal::WrongLength);
         }
         if !is_going(self.stop) {
