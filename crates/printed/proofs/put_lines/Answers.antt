@@ -21,11 +21,10 @@ pub loop-row-preserved : goal.loop-row-preserved
 loop-row-preserved c =
     let chunks = c.as_chunks.ensures in
     let size = length-take-le c.args.count c.as_chunks.result.0.now (omega (arith, c.requires, chunks.front_len)) in
-    let few = c.loop-row-test.true in
-    (
+    let few = c.loop-row-test.true in (
       search rules,
       chunk_more _ _ c.args.count c.loop-row.row-index c.args.rows.now _ chunks.front (omega (arith, size, c.requires, few)) (omega (arith, size, few))
-      c.loop-row.invariant.1 c.row_text.ensures c.put.ensures.1,
+          c.loop-row.invariant.1 c.row_text.ensures c.put.ensures.1,
     )
 
 pub returns : goal.returns
