@@ -15,9 +15,9 @@ use Rattle.effects.specs.Hidden.{no_hidden, with_ir, with_ra_rb}
 use Rattle.effects.specs.Cycles.{calculated, leaving}
 use Rattle.effects.proofs.Theorems.{second_of}
 use Rattle.effects.specs.declared.Stop.{Stop}
-use Rattle.r8_core.specs.Cores.{with_hidden, with_due, with_clock, Visible, visible_of, register}
+use Rattle.r8_core.specs.Cores.{with_hidden, with_due, with_clock, visible_of, register}
 use Rattle.r8_core.specs.Spent.{due_in_range, due_one}
-use Rattle.r8_core.specs.Instruction.{word_due, effect_of, after, memory_after, takes, core_after, step_transition}
+use Rattle.r8_core.specs.Instruction.{word_due, after, memory_after, takes, core_after, step_transition}
 use Rattle.r8_core.specs.Datapath.{due_cycle}
 use Rattle.r8_core.specs.Numbers.{is_going, longest}
 use Rattle.r8_core.specs.Progress.{Progress, starting, cycle_on, cycles_on, instruction_on}
@@ -29,7 +29,7 @@ use Rattle.r8_core.proofs.Spent.{both, due_when_one}
 use Rattle.r8_core.proofs.Cycles.{only_going, one_more, none_more, no_cycle, cycles_add, counted, cycles_counted, cost_range}
 use Rattle.r8_core.proofs.OneInstruction.{one_instruction}
 use Rattle.r8_core.proofs.Endings.{clock_moves}
-use Rattle.r8_core.proofs.Replies.{bit_small, applied_length}
+use Rattle.r8_core.proofs.Replies.{bit_small}
 use Rattle.r8_core.proofs.Again.{due_stays, length_stays}
 
 -- the instruction engine on the two parts of a core, with all else as it is in a core with cycle 1 due
@@ -51,10 +51,6 @@ core_after_lem core one M regs s used =
 -- it leaves the lengths of bank and memory
 pub bank_length : (M regs : List ℕ) (s : Working) → length (bank_on M regs s) ≡ length regs
 bank_length M regs s = length-set regs _ _
-
-pub memory_length : (M : List ℕ) (v : Visible) → length (memory_after M v) ≡ length M
-unfolding memory_after
-memory_length M v = applied_length (effect_of (word_due M v) M v).store M
 
 -- what lets a whole instruction be executed
 pub goes_on_when : (s : Stop) (left : ℕ) → has_room s left ≡ true → (is_going s ≡ true) × (longest ≤ left)

@@ -33,8 +33,7 @@ const LONGEST: u32 = 4;
 #[derive(Clone, Copy)]
 pub struct Instructions(pub u32);
 
-// The core. `due` is the cycle due next, 1 to 4 on every core that calls make of a fresh one. A core is written out in `fresh` and `with_stop`
-// alone.
+// The core. `due` is the cycle due next, 1 to 4 on every core that calls make of a fresh one. A core is written out in `fresh` alone.
 #[derive(Clone, Copy)]
 pub struct Core {
     pub regs: [u16; 16],
@@ -203,17 +202,6 @@ fn clock_full(clock: Cycles, b: u32) -> bool
     clock.0.checked_add(b).is_none()
 }
 
-// Why a view is refused: 7.
-#[tactic(auto, unfolding(crate::specs::Numbers::view_number, refusals::specs::Refusals::first_number))]
-fn view_verdict(ready: bool) -> Result<(), Refusal>
-    ensures { verdict_number result ≡ view_number ready }
-{
-    if !ready {
-        return Err(Refusal::WrongCycle);
-    }
-    Ok(())
-}
-
 // Why a load is refused before its lines: 1, 7.
 #[tactic(auto, unfolding(crate::specs::Numbers::load_number, refusals::specs::Refusals::first_number))]
 fn load_verdict(words: usize, ready: bool) -> Result<(), Refusal>
@@ -224,26 +212,6 @@ fn load_verdict(words: usize, ready: bool) -> Result<(), Refusal>
     }
     if !ready {
         return Err(Refusal::WrongCycle);
-    }
-    Ok(())
-}
-
-// Why a run is refused, and a step with 4 for b: 1, 8, 7, 9.
-#[tactic(auto, unfolding(crate::specs::Numbers::run_number, refusals::specs::Refusals::first_number))]
-fn run_verdict(length: usize, stop: Stop, ready: bool, clock: Cycles, b: u32) -> Result<(), Refusal>
-    ensures { verdict_number result ≡ run_number length stop ready clock.0 b }
-{
-    if refusals::wrong_length(length) {
-        return Err(Refusal::WrongLength);
-    }
-    if !is_going(stop) {
-        return Err(Refusal::Stopped);
-    }
-    if !ready {
-        return Err(Refusal::WrongCycle);
-    }
-    if clock_full(clock, b) {
-        return Err(Refusal::ClockFull);
     }
     Ok(())
 }
@@ -316,6 +284,7 @@ impl Working {
         }
     }
 
+    #[tactic(auto, using(crate::proofs::Cycles::cost_of_range), unfolding(crate::specs::Instruction::takes, crate::specs::Instruction::memory_after))]
     // The instruction engine: the instruction at PC, with the bank and the memory changed where they lie.
     fn instruct(self, regs: &mut [u16], memory: &mut [u16]) -> Working
         requires { longest ≤ self.left.0 }
@@ -332,6 +301,7 @@ impl Working {
 }
 
 impl Core {
+    // The core in another stop state.
     pub fn with_stop(mut self, next: Stop) -> Core
         ensures { result ≡ stopped next self }
     {
@@ -420,42 +390,17 @@ impl Core {
         isa::cost(kind, self.flags).0 <= u32::from(self.due)
     }
 
-    // The clock grows by 1; cycle 1 is due after the last cycle of an instruction, else the next one.
-    fn tick(mut self, finished: bool) -> Core
-        requires { (self.clock.0 < 4294967295) × (self.due ≤ 4) }
-        ensures { result ≡ ticked finished self }
-    {
-        self.clock.0 += 1;
-        self.due = if finished { 1 } else { self.due + 1 };
-        self
-    }
-
-    fn transition(self, finished: bool, store: Store) -> Transition
+    // The core after a cycle: the clock grows by 1; cycle 1 is due after the last cycle of an instruction, else the next one.
+    fn transition(mut self, finished: bool, store: Store) -> Transition
         requires { (self.clock.0 < 4294967295) × (self.due ≤ 4) }
         ensures { result ≡ transition finished self store }
     {
+        self.clock.0 += 1;
+        self.due = if finished { 1 } else { self.due + 1 };
         Transition {
-            core: self.tick(finished),
+            core: self,
             finished,
             store,
-        }
-    }
-
-    // One cycle of a core with cycle 2, 3 or 4 due; with another number due nothing happens (run refuses all but 1 to 4).
-    #[tactic(auto, unfolding(crate::specs::Datapath::later_cycle))]
-    fn later_cycle(self, kind: Kind, memory: &[u16]) -> Transition
-        requires { self.clock.0 < 4294967295 }
-        ensures { result ≡ later_cycle kind memory.now self }
-    {
-        let last = self.is_last(kind);
-        match self.due {
-            2 => self.stop_or_latch(kind).transition(last, Store::Nothing),
-            3 => self.calculate(kind).transition(last, Store::Nothing),
-            4 => {
-                let effect = effects::write_back(kind, self.hidden, memory, self.effect_before());
-                self.with_effect(effect).transition(last, effect.store)
-            }
-            _ => self.idle(),
         }
     }
 
@@ -482,8 +427,8 @@ impl Core {
         self.due_cycle(memory)
     }
 
-    // The cycle due, where the clock has room for it.
-    #[tactic(auto, unfolding(crate::specs::Datapath::due_cycle))]
+    // The cycle due, where the clock has room for it; with a number due that is none of 1 to 4 nothing happens (run refuses it).
+    #[tactic(auto, unfolding(crate::specs::Datapath::due_cycle, crate::specs::Datapath::later_cycle))]
     fn due_cycle(self, memory: &[u16]) -> Transition
         requires { self.clock.0 < 4294967295 }
         ensures { result ≡ due_cycle memory.now self }
@@ -491,21 +436,16 @@ impl Core {
         if self.due == 1 {
             return self.fetch(memory).transition(false, Store::Nothing);
         }
-        self.later_cycle(table::kind_of(self.hidden.ir), memory)
-    }
-
-    // One cycle, its store made.
-    #[tactic(auto, unfolding(crate::specs::Progress::cycle_on, crate::specs::Datapath::due_cycle))]
-    fn cycle_on(self, memory: &mut [u16]) -> Moved
-        requires { self.clock.0 < 4294967295 }
-        ensures { reached result memory.new ≡ cycle_on (starting self memory.old) }
-    {
-        let transition = self.due_cycle(memory);
-        apply(transition.store, memory);
-        Moved {
-            core: transition.core,
-            cycles: Cycles(1),
-            instructions: Instructions(u32::from(transition.finished)),
+        let kind = table::kind_of(self.hidden.ir);
+        let last = self.is_last(kind);
+        match self.due {
+            2 => self.stop_or_latch(kind).transition(last, Store::Nothing),
+            3 => self.calculate(kind).transition(last, Store::Nothing),
+            4 => {
+                let effect = effects::write_back(kind, self.hidden, memory, self.effect_before());
+                self.with_effect(effect).transition(last, effect.store)
+            }
+            _ => self.idle(),
         }
     }
 
@@ -549,15 +489,16 @@ impl Core {
             state = state.instruct(&mut regs, memory);
             more -= 1;
         }
-        let used = Cycles(b - state.left.0);
+        let cycles = Cycles(b - state.left.0);
         Moved {
-            core: self.joined(state, regs, used),
-            cycles: used,
+            core: self.joined(state, regs, cycles),
+            cycles,
             instructions: Instructions(most - more),
         }
     }
 
     // A turn of run's loop: whole instructions where cycle 1 is due and there is room for one, else a cycle.
+    #[tactic(auto, unfolding(crate::specs::Progress::cycle_on, crate::specs::Datapath::due_cycle))]
     fn instructions_or_cycle(self, b: u32, memory: &mut [u16]) -> Moved
         requires { (1 ≤ b) × (self.clock.0 + b ≤ 4294967295) }
         ensures { reached result memory.new ≡ instructions_or_cycle b (starting self memory.old) }
@@ -567,7 +508,13 @@ impl Core {
             let whole = self;
             return whole.instructions(b, b, memory);
         }
-        self.cycle_on(memory)
+        let transition = self.due_cycle(memory);
+        apply(transition.store, memory);
+        Moved {
+            core: transition.core,
+            cycles: Cycles(1),
+            instructions: Instructions(u32::from(transition.finished)),
+        }
     }
 
     // The hidden registers zero.
@@ -600,24 +547,15 @@ impl Core {
     fn snapshot(self) -> Snapshot
         ensures { result ≡ shown self }
     {
-        let Core {
-            regs,
-            pc,
-            sp,
-            flags,
-            due,
-            stop,
-            clock,
-            ..
-        } = self;
+        let regs = self.regs;
         Snapshot {
             regs,
-            pc,
-            sp,
-            flags,
-            stop,
-            due,
-            clock,
+            pc: self.pc,
+            sp: self.sp,
+            flags: self.flags,
+            stop: self.stop,
+            due: self.due,
+            clock: self.clock,
         }
     }
 
@@ -631,6 +569,26 @@ impl Core {
             Stop::Going if self.one_due() => End::B,
             Stop::Going => End::M,
         }
+    }
+
+    // Why a run is refused, and a step with 4 for b: 1, 8, 7, 9.
+    #[tactic(auto, unfolding(crate::specs::Numbers::run_number, refusals::specs::Refusals::first_number))]
+    fn run_verdict(&self, length: usize, ready: bool, b: u32) -> Result<(), Refusal>
+        ensures { verdict_number result ≡ run_number length self.now.stop ready self.now.clock.0 b }
+    {
+        if refusals::wrong_length(length) {
+            return Err(Refusal::WrongLength);
+        }
+        if !is_going(self.stop) {
+            return Err(Refusal::Stopped);
+        }
+        if !ready {
+            return Err(Refusal::WrongCycle);
+        }
+        if clock_full(self.clock, b) {
+            return Err(Refusal::ClockFull);
+        }
+        Ok(())
     }
 
     // A fresh core for this one.
@@ -668,7 +626,7 @@ impl Core {
     fn ran(&mut self, b: u32, memory: &mut [u16]) -> Result<Ran, Refusal>
         ensures { run_gave (record { core = self.new; answer = result }) memory.new ≡ run b self.old memory.old }
     {
-        run_verdict(memory.len(), self.stop, self.due_in_range(), self.clock, b)?;
+        self.run_verdict(memory.len(), self.due_in_range(), b)?;
         let mut used = Cycles(0);
         let mut finished = Instructions(0);
         while used.0 < b && is_going(self.stop) {
@@ -684,28 +642,29 @@ impl Core {
         })
     }
 
-    // One instruction by the instruction engine; the hidden registers become zero.
-    pub fn step(mut self, memory: &mut [u16]) -> RunReply
+    // One instruction by the instruction engine; the hidden registers become zero. The core stays by value: a step takes longer where it is lent.
+    pub fn step(self, memory: &mut [u16]) -> RunReply
         ensures { run_gave result memory.new ≡ step self memory.old }
     {
-        let answer = self.stepped(memory);
-        Answered { core: self, answer }
-    }
-
-    fn stepped(&mut self, memory: &mut [u16]) -> Result<Ran, Refusal>
-        ensures { run_gave (record { core = self.new; answer = result }) memory.new ≡ step self.old memory.old }
-    {
-        run_verdict(memory.len(), self.stop, self.one_due(), self.clock, LONGEST)?;
+        if let Err(why) = self.run_verdict(memory.len(), self.one_due(), LONGEST) {
+            return Answered {
+                core: self,
+                answer: Err(why),
+            };
+        }
         let one = self.instructions(1, LONGEST, memory);
-        *self = one.core.without_hidden();
-        Ok(Ran {
-            cycles: one.cycles,
-            instructions: one.instructions,
-            end: self.end(),
-        })
+        let core = one.core.without_hidden();
+        Answered {
+            core,
+            answer: Ok(Ran {
+                cycles: one.cycles,
+                instructions: one.instructions,
+                end: core.end(),
+            }),
+        }
     }
 
-    // All but the hidden registers.
+    // All but the hidden registers, of a core with cycle 1 due.
     pub fn view(self) -> ViewReply
         ensures { view_gave result ≡ view self }
     {
@@ -713,11 +672,14 @@ impl Core {
         Answered { core: self, answer }
     }
 
-    #[tactic(auto, unfolding(crate::specs::Calls::view))]
+    // A view is refused with 7 alone.
+    #[tactic(auto, unfolding(crate::specs::Calls::view, crate::specs::Numbers::view_number, refusals::specs::Refusals::first_number))]
     fn viewed(self) -> Result<Snapshot, Refusal>
         ensures { view_gave (record { core = self; answer = result }) ≡ view self }
     {
-        view_verdict(self.one_due())?;
+        if !self.one_due() {
+            return Err(Refusal::WrongCycle);
+        }
         Ok(self.snapshot())
     }
 }
