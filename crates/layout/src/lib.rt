@@ -2,6 +2,7 @@
 #![tactic(auto)]
 
 ghost use Rattle.std.specs.Prelude.{◌≡◌, List, [], ◌∷◌, ℕ, ◌≤◌};
+ghost use Rattle.r8_core.specs.Calls;
 ghost use Rattle.r8_core.specs.Calls.{done, refused, reset, load, run, step, view};
 ghost use Rattle.refusals.specs.Refusals.{refusal_number};
 ghost use Rattle.r8_core.specs.Cores.{visible, visible_of};
@@ -11,7 +12,7 @@ ghost use Rattle.layout.specs.Layout.{padded, flags_number, flags_of, stop_numbe
 
 use effects::Stop;
 use isa::Flags;
-use r8_core::{Core, ListingError, LoadReply, Ran, RunReply, Snapshot, ViewReply};
+use r8_core::{Answered, Core, ListingError, Ran, Snapshot};
 use refusals::Refusal;
 
 // The next core, and the answer's numbers.
@@ -75,37 +76,6 @@ fn refused_numbers(why: Refusal) -> [u64; 23]
     padded([4, u64::from(u8::from(why))])
 }
 
-#[tactic(auto, unfolding(crate::specs::Layout::answer_numbers))]
-pub fn load_numbers(answer: Result<usize, ListingError>) -> [u64; 23]
-    ensures { result ≡ answer_numbers (load_answer_of answer) }
-{
-    match answer {
-        Ok(count) => padded([1, count as u64]),
-        Err(ListingError::Refused(why)) => refused_numbers(why),
-        Err(ListingError::Faulty(at)) => padded([
-            5,
-            u64::from(u8::from(at.fault)),
-            at.offset as u64,
-        ]),
-    }
-}
-
-// What a run or a step answers.
-#[tactic(auto, unfolding(crate::specs::Layout::answer_numbers))]
-pub fn run_numbers(answer: Result<Ran, Refusal>) -> [u64; 23]
-    ensures { result ≡ answer_numbers (run_answer_of answer) }
-{
-    match answer {
-        Ok(ran) => padded([
-            2,
-            u64::from(ran.cycles.0),
-            u64::from(ran.instructions.0),
-            u64::from(text::letter(ran.end)),
-        ]),
-        Err(why) => refused_numbers(why),
-    }
-}
-
 // What is seen of a core, with the case; `due` is the cycle due, or the cycles spent.
 #[tactic(auto, using(crate::proofs::Bank::bank_back))]
 fn seen_numbers(kind: u64, s: Snapshot) -> [u64; 23]
@@ -124,13 +94,57 @@ fn seen_numbers(kind: u64, s: Snapshot) -> [u64; 23]
     numbers
 }
 
-#[tactic(auto, unfolding(crate::specs::Layout::answer_numbers))]
-pub fn view_numbers(answer: Result<Snapshot, Refusal>) -> [u64; 23]
-    ensures { result ≡ answer_numbers (view_answer_of answer) }
-{
-    match answer {
-        Ok(snapshot) => seen_numbers(3, snapshot),
-        Err(why) => refused_numbers(why),
+// What a call answers, as the definitions have it and as numbers.
+pub trait Answer {
+    ghost said: { Self → Calls.Answer };
+
+    fn numbers(self) -> [u64; 23]
+        ensures { result ≡ answer_numbers (said self) };
+}
+
+impl Answer for Result<usize, ListingError> {
+    ghost said = { load_answer_of };
+
+    #[tactic(auto, unfolding(crate::specs::Layout::answer_numbers))]
+    fn numbers(self) -> [u64; 23] {
+        match self {
+            Ok(count) => padded([1, count as u64]),
+            Err(ListingError::Refused(why)) => refused_numbers(why),
+            Err(ListingError::Faulty(at)) => padded([
+                5,
+                u64::from(u8::from(at.fault)),
+                at.offset as u64,
+            ]),
+        }
+    }
+}
+
+impl Answer for Result<Ran, Refusal> {
+    ghost said = { run_answer_of };
+
+    #[tactic(auto, unfolding(crate::specs::Layout::answer_numbers))]
+    fn numbers(self) -> [u64; 23] {
+        match self {
+            Ok(ran) => padded([
+                2,
+                u64::from(ran.cycles.0),
+                u64::from(ran.instructions.0),
+                u64::from(text::letter(ran.end)),
+            ]),
+            Err(why) => refused_numbers(why),
+        }
+    }
+}
+
+impl Answer for Result<Snapshot, Refusal> {
+    ghost said = { view_answer_of };
+
+    #[tactic(auto, unfolding(crate::specs::Layout::answer_numbers))]
+    fn numbers(self) -> [u64; 23] {
+        match self {
+            Ok(snapshot) => seen_numbers(3, snapshot),
+            Err(why) => refused_numbers(why),
+        }
     }
 }
 
@@ -167,36 +181,13 @@ pub fn put(answers: &mut [u64], numbers: [u64; 23])
 }
 
 // A reply, with its answer as numbers.
-impl From<LoadReply> for Numbered {
-    ghost from_gives = { λ reply n. (n.core ≡ reply.core) × (n.numbers ≡ answer_numbers (load_answer_of reply.answer)) };
+impl<A: Answer> From<Answered<A>> for Numbered {
+    ghost from_gives = { λ reply n. (n.core ≡ reply.core) × (n.numbers ≡ answer_numbers (A.said reply.answer)) };
 
-    fn from(reply: LoadReply) -> Numbered {
+    fn from(reply: Answered<A>) -> Numbered {
         Numbered {
             core: reply.core,
-            numbers: load_numbers(reply.answer),
-        }
-    }
-}
-
-// Of a run or a step.
-impl From<RunReply> for Numbered {
-    ghost from_gives = { λ reply n. (n.core ≡ reply.core) × (n.numbers ≡ answer_numbers (run_answer_of reply.answer)) };
-
-    fn from(reply: RunReply) -> Numbered {
-        Numbered {
-            core: reply.core,
-            numbers: run_numbers(reply.answer),
-        }
-    }
-}
-
-impl From<ViewReply> for Numbered {
-    ghost from_gives = { λ reply n. (n.core ≡ reply.core) × (n.numbers ≡ answer_numbers (view_answer_of reply.answer)) };
-
-    fn from(reply: ViewReply) -> Numbered {
-        Numbered {
-            core: reply.core,
-            numbers: view_numbers(reply.answer),
+            numbers: reply.answer.numbers(),
         }
     }
 }

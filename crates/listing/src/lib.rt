@@ -5,9 +5,9 @@ ghost use Rattle.std.specs.Prelude.{◌≡◌, length};
 ghost use Rattle.lines.specs.Lines.{lines};
 ghost use Rattle.listing.specs.Answers.{fault_number, store_answer};
 ghost use Rattle.listing.specs.Verdicts.{verdict_number};
-ghost use Rattle.listing.specs.Listing.{lowest_after, address_fault, fault_of, words_of, store_line, store_lines, listing_answer, listing_memory};
+ghost use Rattle.listing.specs.Listing.{fault_of, store_lines, listing_answer, listing_memory};
 
-use lines::Line;
+use lines::{Line, Lines};
 
 // What is wrong with a line.
 #[derive(Clone, Copy, PartialEq, Eq)]
@@ -37,91 +37,44 @@ pub struct FaultAt {
     pub offset: usize,
 }
 
-fn judge_address(limit: usize, lowest: u32, address: u16) -> Result<(), Fault>
-    ensures { verdict_number result ≡ address_fault limit lowest address }
-{
-    if limit <= address as usize {
-        return Err(Fault::PastEnd);
-    }
-    if (address as u32) < lowest {
-        return Err(Fault::NotAbove);
-    }
-    Ok(())
-}
-
 fn judge(limit: usize, lowest: u32, line: Line) -> Result<(), Fault>
     ensures { verdict_number result ≡ fault_of limit lowest line }
 {
     match line {
         Line::Blank => Ok(()),
-        Line::Entry { address, .. } => judge_address(limit, lowest, address),
+        Line::Entry { address, .. } if limit <= address as usize => Err(Fault::PastEnd),
+        Line::Entry { address, .. } if (address as u32) < lowest => Err(Fault::NotAbove),
+        Line::Entry { .. } => Ok(()),
         Line::IllFormed => Err(Fault::IllFormed),
     }
 }
 
-fn lowest_after(line: Line, lowest: u32) -> u32
-    ensures { result ≡ lowest_after line lowest }
-{
-    match line {
-        Line::Blank => lowest,
-        Line::Entry { address, .. } => address as u32 + 1,
-        Line::IllFormed => lowest,
-    }
-}
-
-fn words_of(line: Line) -> usize
-    ensures { result ≡ words_of line }
-{
-    match line {
-        Line::Blank => 0,
-        Line::Entry {
-            address: _,
-            word: _,
-        } => 1,
-        Line::IllFormed => 0,
-    }
-}
-
-// What a store of the listing answers, with nothing stored yet.
+// What a store of the listing answers, with nothing stored yet. An address has to be at or above the lowest: one past the last that was read.
+#[tactic(auto, using(crate::proofs::Turns::same_faults, crate::proofs::Turns::same_counts, crate::proofs::Turns::counts_le, crate::proofs::Turns::numbered), unfolding(crate::proofs::Turns::faults, crate::proofs::Turns::counts, crate::specs::Listing::listing_answer, crate::specs::Listing::check_of))]
 fn check(listing: &[u8], limit: usize) -> Result<usize, FaultAt>
     ensures { store_answer result ≡ listing_answer listing.now limit }
 {
-    let mut at = 0;
-    let mut lowest: u32 = 0;
+    let mut lowest = 0;
     let mut count = 0;
-    while at < listing.len() {
-        let read = lines::read_line(&listing[at..]);
-        let line = read.line;
-        if let Err(fault) = judge(limit, lowest, line) {
-            return Err(FaultAt { fault, offset: at });
+    for (offset, line) in Lines::new(listing) {
+        judge(limit, lowest, line).map_err(|fault| FaultAt { fault, offset })?;
+        if let Line::Entry { address, .. } = line {
+            lowest = address as u32 + 1;
+            count += 1;
         }
-        lowest = lowest_after(line, lowest);
-        count += words_of(line);
-        at += read.length + 1;
     }
     Ok(count)
 }
 
-fn store_line(line: Line, memory: &mut [u16])
-    ensures { memory.new ≡ store_line line memory.old }
-{
-    match line {
-        Line::Blank => {}
-        Line::Entry { address, word } => words::write(memory, address, word),
-        Line::IllFormed => {}
-    }
-}
-
 // The lines are stored with no further look at what is wrong with one: an ill-formed line says nothing, and is passed over.
+#[tactic(auto, using(crate::proofs::Turns::same_stores), unfolding(crate::proofs::Turns::stores))]
 fn store_lines(listing: &[u8], memory: &mut [u16])
     ensures { memory.new ≡ store_lines (lines listing.now) memory.old }
 {
-    let mut at = 0;
-    while at < listing.len() {
-        let read = lines::read_line(&listing[at..]);
-        let line = read.line;
-        store_line(line, memory);
-        at += read.length + 1;
+    for (_, line) in Lines::new(listing) {
+        if let Line::Entry { address, word } = line {
+            words::write(memory, address, word);
+        }
     }
 }
 
@@ -132,7 +85,7 @@ pub fn store(listing: &[u8], memory: &mut [u16]) -> Result<usize, FaultAt>
     ensures answer { store_answer result ≡ listing_answer listing.now (length memory.old) }
     ensures memory { memory.new ≡ listing_memory listing.now memory.old }
 {
-    let count = check(listing, memory.len())?;
+    let stored = check(listing, memory.len())?;
     store_lines(listing, memory);
-    Ok(count)
+    Ok(stored)
 }

@@ -7,12 +7,9 @@ use Rattle.r8_core.specs.Spent.{spent_of, due_in_range}
 use Rattle.r8_core.specs.Progress.{Progress, starting, cycles_on}
 use Rattle.r8_core.specs.Calls as core
 use Rattle.r8_core.specs.Calls.{Answer, done, stored, ran, viewed, refused, refused_at, Reply}
-use Rattle.r8_core.specs.Answers.{load_answer_of, run_answer_of, view_answer_of, reset_gave, load_gave, run_gave, view_gave}
+use Rattle.r8_core.specs.Answers.{LoadReply, RunReply, ViewReply, load_answer_of, run_answer_of, view_answer_of, reset_gave, load_gave, run_gave, view_gave}
 use Rattle.r8_core.specs.declared.Core.{Core}
 use Rattle.r8_core.specs.declared.End.{End}
-use Rattle.r8_core.specs.declared.LoadReply.{LoadReply}
-use Rattle.r8_core.specs.declared.RunReply.{RunReply}
-use Rattle.r8_core.specs.declared.ViewReply.{ViewReply}
 use Rattle.plays.specs.Plays.{play, Each, counted}
 use Rattle.machine.specs.Machine as machine
 use Rattle.machine.specs.Machine.{Machine, fresh_machine, cycles_of}

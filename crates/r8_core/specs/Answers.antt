@@ -9,9 +9,7 @@ use Rattle.r8_core.specs.declared.Core.{Core}
 use Rattle.r8_core.specs.declared.Ran.{Ran}
 use Rattle.r8_core.specs.declared.ListingError.{ListingError}
 use Rattle.r8_core.specs.declared.ListingError.TheVariants.{Refused, Faulty}
-use Rattle.r8_core.specs.declared.LoadReply.{LoadReply}
-use Rattle.r8_core.specs.declared.RunReply.{RunReply}
-use Rattle.r8_core.specs.declared.ViewReply.{ViewReply}
+use Rattle.r8_core.specs.declared.Answered.{Answered}
 use Rattle.r8_core.specs.declared.Snapshot.{Snapshot}
 
 -- the answers
@@ -40,6 +38,16 @@ shown core =
       due = core.due;
       clock = core.clock;
     }
+
+-- what the calls that answer give back, as the code names it
+abbrev pub LoadReply : Type 0
+LoadReply = Answered (Result ℕ ListingError)
+
+abbrev pub RunReply : Type 0
+RunReply = Answered (Result Ran Refusal)
+
+abbrev pub ViewReply : Type 0
+ViewReply = Answered (Result Snapshot Refusal)
 
 -- what each call gave back, with the memory as it then is. Reset and view are lent none and cannot change it: theirs are functions of the
 -- memory there is, and hand it on

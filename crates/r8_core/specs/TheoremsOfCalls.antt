@@ -10,7 +10,6 @@ use Rattle.listing.specs.Listing.{listing_answer, listing_memory}
 use Rattle.listing.specs.declared.Fault.{Fault}
 use Rattle.listing.specs.declared.FaultAt.{FaultAt}
 use Rattle.words.specs.Arithmetic.{bit}
-use Rattle.isa.specs.declared.Cycles.{Cycles}
 use Rattle.effects.specs.declared.Stop.TheVariants.{Going, Halted, Undefined}
 use Rattle.effects.specs.declared.Store.TheVariants.{Nothing}
 use Rattle.effects.specs.Effect.{applied}
@@ -18,20 +17,16 @@ use Rattle.effects.specs.Hidden.{no_hidden}
 use Rattle.r8_core.specs.Cores.{fresh_core, with_hidden, visible_of}
 use Rattle.r8_core.specs.Instruction.{takes}
 use Rattle.r8_core.specs.Calls.{Answer, done, stored, ran, viewed, refused, refused_at, Reply, reset, load, view, run, step}
-use Rattle.r8_core.specs.Answers.{load_answer_of, run_answer_of, view_answer_of, shown, reset_gave, load_gave, run_gave, view_gave}
+use Rattle.r8_core.specs.Answers.{LoadReply, RunReply, ViewReply, load_answer_of, run_answer_of, view_answer_of, shown, reset_gave, load_gave, run_gave, view_gave}
 use Rattle.r8_core.specs.Datapath.{due_cycle, cycle_or_idle}
 use Rattle.r8_core.specs.declared.Core.{Core}
 use Rattle.r8_core.specs.declared.Transition.{Transition}
-use Rattle.r8_core.specs.declared.Instructions.{Instructions}
 use Rattle.r8_core.specs.declared.End.{End}
 use Rattle.r8_core.specs.declared.End.TheVariants.{H, U, B, M}
 use Rattle.r8_core.specs.declared.Ran.{Ran}
 use Rattle.r8_core.specs.declared.ListingError.{ListingError}
-use Rattle.r8_core.specs.declared.ListingError.TheVariants.{Refused, Faulty}
+use Rattle.r8_core.specs.declared.ListingError.TheVariants.{Faulty}
 use Rattle.r8_core.specs.declared.Snapshot.{Snapshot}
-use Rattle.r8_core.specs.declared.LoadReply.{LoadReply}
-use Rattle.r8_core.specs.declared.RunReply.{RunReply}
-use Rattle.r8_core.specs.declared.ViewReply.{ViewReply}
 
 -- '1: L is 0 or above 65,536'; '8: stopped'; '7: cycle due is not 1'
 abbrev pub WrongLength : List ℕ → Type 0

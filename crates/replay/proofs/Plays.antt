@@ -1,7 +1,7 @@
 -- Laws about a list of calls played on a core: where a play starts, one call more, and where it ends.
 use mathlib.Core.Path.{◌≡◌, refl, sym, ap, subst, ◌∙◌}
 use mathlib.Core.List.{List, [], ◌∷◌, ◌++◌}
-use Prim.Native.Nat.{ℕ, ◌+◌, ◌-◌, ◌*◌, ◌<◌, ◌≤◌}
+use Prim.Native.Nat.{ℕ, ◌+◌, ◌*◌, ◌/◌, ◌≤◌}
 use native.Mathlib.Omega.{arith}
 use lib.ListN.{length, take, drop, length-append}
 use Rattle.std.specs.Prelude.{Result, Ok, Err, IsOk}
@@ -14,12 +14,12 @@ use Rattle.layout.proofs.Sizes.{numbers_size, left_size}
 use Rattle.layout.proofs.Onto.{in_two_parts}
 use Rattle.plays.specs.Plays.{play}
 use Rattle.machine.specs.Theorem.{Call, State, state, reply_to, on_core}
-use Rattle.replay.specs.Replay.{Reading, listed, no_call, no_stretch, following, read_then, read_from, read_calls, numbers_then}
+use Rattle.replay.specs.Replay.{Reading, listed, no_call, no_stretch, call_of, following, read_then, read_from, read_calls, numbers_then}
 use Rattle.replay.specs.declared.ListedCall.{ListedCall}
 use Rattle.replay.specs.declared.CallFault.{CallFault}
 use Rattle.replay.specs.declared.CallFault.TheVariants.{NoCall, NoStretch}
-use Rattle.replay.proofs.Readings.{reads_at, none_left}
-use Rattle.replay.specs.ReplayParts.{front_call, Playable, AfterPlay, after_play, core_left, core_numbers, core_played}
+use Rattle.replay.proofs.Readings.{chunk_whole, Cut, reads_on, none_left}
+use Rattle.replay.specs.ReplayParts.{read_chunk, Playable, AfterPlay, after_play, core_left, core_numbers, core_played}
 
 -- a list that can be played is read as calls, and there are places enough
 pub playable : (r : Reading) (room : ℕ) → Playable r room
@@ -88,25 +88,23 @@ from_next call rest s answers to reply e room =
     ∙ ap (λ (n : ℕ). take (to + n) next ++ onto_if_room more (drop (to + n) next)) size)
 
 -- a play under way: the calls left, from the core, memory and answers reached, give what the whole list gives
-pub record Reached (text calls memory₀ answers₀ : List ℕ) (core : Core) (memory answers : List ℕ) (at to : ℕ) : Type 0 where
-  pub i : ℕ
+pub record Reached (text calls memory₀ answers₀ : List ℕ) (core : Core) (memory answers : List ℕ) (i : ℕ) (rest : List ℕ) : Type 0 where
   pub left : List Call
-  pub reads : read_from text i (drop at calls) ≡ listed left
-  pub within : at ≤ length calls
-  pub room : to + 23 * (length left + 1) ≤ length answers
+  pub reads : read_from text i rest ≡ listed left
+  pub whole : 3 * i + length rest ≡ length calls
+  pub room : 23 * i + 23 * (length left + 1) ≤ length answers
   pub size : length memory ≡ length memory₀
   pub same : length answers ≡ length answers₀
-  pub gives : core_played (read_calls text calls) memory₀ answers₀ ≡ from left (state core memory) answers to
+  pub gives : core_played (read_calls text calls) memory₀ answers₀ ≡ from left (state core memory) answers (23 * i)
 
 pub starts : (text calls memory answers : List ℕ) (core : Core) → core ≡ fresh_core → Playable (read_calls text calls) (length answers)
-    → Reached text calls memory answers core memory answers 0 0
+    → Reached text calls memory answers core memory answers 0 calls
 starts text calls memory answers core fresh h =
     let p = playable (read_calls text calls) (length answers) h in
     record {
-      i = 0;
       left = p.0;
       reads = p.1;
-      within = omega arith;
+      whole = omega arith;
       room = omega (arith, p.2);
       size = refl;
       same = refl;
@@ -115,46 +113,51 @@ starts text calls memory answers core fresh h =
           ∙ ap (λ (c : Core). from p.0 (state c memory) answers 0) (sym fresh);
     }
 
-module _ {text calls memory₀ answers₀ : List ℕ} {core : Core} {memory answers : List ℕ} {at to : ℕ} (r : Reached text calls memory₀ answers₀ core memory answers at to) where
-  -- what the next is read as
-  pub reads_next : (x : Result ListedCall CallFault) → at < length calls → x ≡ front_call (take (length calls - at) (drop at calls)) (length text)
-      → read_then text r.i x (read_from text (r.i + 1) (drop (at + 3) calls)) ≡ listed r.left
-  reads_next x h e = sym (reads_at text r.i calls at x h e) ∙ r.reads
+module _ {text calls memory₀ answers₀ : List ℕ} {core : Core} {memory answers : List ℕ} {i : ℕ} {ns : List ℕ} (r : Reached text calls memory₀ answers₀ core memory answers i ns) where
+  module _ {chunk rest : List ℕ} (cut : Cut ns chunk rest) where
+    -- what the next is read as
+    reads_next : (x : Result ListedCall CallFault) → x ≡ read_chunk chunk (length text) → read_then text i x (read_from text (i + 1) rest) ≡ listed r.left
+    reads_next x read = sym (reads_on text i x cut read) ∙ r.reads
 
-  -- the next is a call
-  pub next_is_call : (x : Result ListedCall CallFault) → at < length calls → x ≡ front_call (take (length calls - at) (drop at calls)) (length text)
-      → IsOk x
-  next_is_call x h e = is_call text r.i x (read_from text (r.i + 1) (drop (at + 3) calls)) r.left (reads_next x h e)
+    -- the next is a call
+    pub next_is_call : (x : Result ListedCall CallFault) → x ≡ read_chunk chunk (length text) → IsOk x
+    next_is_call x read = is_call text i x (read_from text (i + 1) rest) r.left (reads_next x read)
 
-  -- one call more
-  pub goes_on : (call : Call) (reply : NumberedReply) (next : List ℕ) → at + 3 ≤ length calls
-      → following call (read_from text (r.i + 1) (drop (at + 3) calls)) ≡ listed r.left
-      → reply ≡ numbered (reply_to call core memory) → length reply.memory ≡ length memory
-      → next ≡ take to answers ++ onto_if_room reply.numbers (drop to answers) → length next ≡ length answers
-      → Reached text calls memory₀ answers₀ reply.core reply.memory next (at + 3) (to + 23)
-  goes_on call reply next whole reads e size written same =
-      let s = split_first call (read_from text (r.i + 1) (drop (at + 3) calls)) r.left reads in
-      let room : to + 23 * (length (call ∷ s.0) + 1) ≤ length answers = subst (λ (l : List Call). to + 23 * (length l + 1) ≤ length answers) s.2 r.room in
-      record {
-        i = r.i + 1;
-        left = s.0;
-        reads = s.1;
-        within = whole;
-        room = omega arith;
-        size = size ∙ r.size;
-        same = same ∙ r.same;
-        gives =
-            r.gives
-            ∙ ap (λ (l : List Call). from l (state core memory) answers to) s.2
-            ∙ from_next call s.0 (state core memory) answers to reply e room
-            ∙ ap (λ (l : List ℕ). from s.0 (state reply.core reply.memory) l (to + 23)) (sym written);
-      }
+    -- one call more
+    pub goes_on : (call : ListedCall) (reply : NumberedReply) (next : List ℕ) (h j : ℕ) → h ≡ i → j ≡ i + 1 → Ok call ≡ read_chunk chunk (length text)
+        → reply ≡ numbered (reply_to (call_of text call) core memory) → length reply.memory ≡ length memory
+        → next ≡ take (23 * h) answers ++ onto_if_room reply.numbers (drop (23 * h) answers) → length next ≡ length answers
+        → Reached text calls memory₀ answers₀ reply.core reply.memory next j rest
+    goes_on call reply next h j this count read e size written same =
+        let s = split_first (call_of text call) (read_from text (i + 1) rest) r.left (reads_next (Ok call) read) in
+        let room : 23 * i + 23 * (length (call_of text call ∷ s.0) + 1) ≤ length answers =
+        subst (λ (l : List Call). 23 * i + 23 * (length l + 1) ≤ length answers) s.2 r.room in
+        let place : 23 * i + 23 ≡ 23 * (i + 1) = omega arith in
+        let put = ap (λ (n : ℕ). take (23 * n) answers ++ onto_if_room reply.numbers (drop (23 * n) answers)) (sym this) ∙ sym written in
+        rw count record {
+          left = s.0;
+          reads = s.1;
+          whole = omega (arith, chunk_whole chunk (length text) call read, r.whole, ap length cut.parts, length-append chunk rest);
+          room = omega (arith, same);
+          size = size ∙ r.size;
+          same = same ∙ r.same;
+          gives =
+              r.gives
+              ∙ ap (λ (l : List Call). from l (state core memory) answers (23 * i)) s.2
+              ∙ from_next (call_of text call) s.0 (state core memory) answers (23 * i) reply e room
+              ∙ (λ k. from s.0 (state reply.core reply.memory) (put k) (place k));
+        }
 
   -- no call left
-  pub over : length calls ≤ at → r.left ≡ []
-  over h = cc (r.reads, none_left text r.i calls at h)
+  over : length ns ≡ 0 → r.left ≡ []
+  over h = cc (r.reads, none_left text i ns h)
 
-  pub ends : length calls ≤ at
-      → core_played (read_calls text calls) memory₀ answers₀ ≡ after_play memory (take to answers ++ onto_if_room (core_left core) (drop to answers))
+  pub ends : length ns ≡ 0
+      → core_played (read_calls text calls) memory₀ answers₀
+      ≡ after_play memory (take (23 * (length calls / 3)) answers ++ onto_if_room (core_left core) (drop (23 * (length calls / 3)) answers))
   unfolding play numbers_then
-  ends h = r.gives ∙ ap (λ (l : List Call). from l (state core memory) answers to) (over h)
+  ends h =
+      let count : i ≡ length calls / 3 = omega (arith, r.whole) in
+      r.gives
+      ∙ ap (λ (l : List Call). from l (state core memory) answers (23 * i)) (over h)
+      ∙ ap (λ (n : ℕ). after_play memory (take (23 * n) answers ++ onto_if_room (core_left core) (drop (23 * n) answers))) count

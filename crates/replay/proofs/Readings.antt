@@ -1,75 +1,73 @@
 -- Laws about the reading of a list of calls: the call at its front, the rest behind it, and the verdict from a place on.
-use mathlib.Core.Path.{◌≡◌, refl, sym, ap, subst, ◌∙◌}
+use mathlib.Core.Path.{◌≡◌, refl, sym, ap, ◌∙◌}
 use mathlib.Core.Bool.{Bool, cond}
-use mathlib.Core.List.{List, [], ◌∷◌}
-use Prim.Native.Nat.{ℕ, ◌+◌, ◌-◌, ◌*◌, ◌<◌, ◌≤◌}
+use mathlib.Core.List.{List, [], ◌∷◌, ◌++◌}
+use Prim.Native.Nat.{ℕ, ◌+◌, ◌*◌, ◌/◌, ◌<◌, ◌≤◌, min}
 use native.Mathlib.Omega.{arith}
 use borrow.Author.Tests.{le-leb, lt-leb}
 use lib.Dec.{leb}
-use lib.ListN.{length, take, drop, get_or, length-drop, drop_of_length-le}
-use lib.Seq.{drop-drop, take_all}
-use Rattle.std.specs.declared.result.Result.{Result}
-use Rattle.std.specs.declared.result.Result.TheVariants.{Ok, Err}
+use lib.ListN.{length, length-append}
+use Rattle.std.specs.Prelude.{Result, Ok, Err, Some}
+use Rattle.std.specs.Borrow.{Bor}
+use Rattle.std.specs.declared.slice.Chunks.{Chunks}
+use Rattle.std.specs.Slice.Iter.{chunks_rest, chunks_size, chunks_steps}
 use Rattle.machine.specs.Theorem.{Call}
-use Rattle.replay.specs.Replay.{read_call, call_of, Reading, listed, no_call, no_stretch, following, read_then, read_from, read_calls}
-use Rattle.replay.specs.ReplayParts.{fault_at, verdict_of, front_call, ReadWhole}
+use Rattle.replay.specs.Replay.{call_of, Reading, listed, no_call, no_stretch, following, read_then, read_from, read_calls}
+use Rattle.replay.specs.ReplayParts.{fault_at, verdict_of, read_chunk}
 use Rattle.replay.specs.declared.ListedCall.{ListedCall}
 use Rattle.replay.specs.declared.CallFault.{CallFault}
 use Rattle.replay.specs.declared.CallFault.TheVariants.{NoCall, NoStretch}
 use Rattle.replay.specs.declared.ReplayError.{ReplayError}
 use Rattle.replay.specs.declared.ReplayError.TheVariants as error
 
--- the call at the front, where there are three numbers and where not
-pub front_short : (ns : List ℕ) (size : ℕ) → length ns < 3 → Err NoCall ≡ front_call ns size
-front_short [] size h = refl
-front_short (a ∷ []) size h = refl
-front_short (a ∷ b ∷ []) size h = refl
-front_short (a ∷ b ∷ c ∷ rest) size h = absurd (omega arith)
+-- a chunk that is read as a call has three numbers
+pub chunk_whole : (chunk : List ℕ) (size : ℕ) (call : ListedCall) → Ok call ≡ read_chunk chunk size → length chunk ≡ 3
+chunk_whole (a ∷ b ∷ c ∷ []) size call e = refl
+chunk_whole [] size call e = let z : ◌≡◌ {A = ℕ} 0 1 = cc in absurd (omega arith)
+chunk_whole (a ∷ []) size call e = let z : ◌≡◌ {A = ℕ} 0 1 = cc in absurd (omega arith)
+chunk_whole (a ∷ b ∷ []) size call e = let z : ◌≡◌ {A = ℕ} 0 1 = cc in absurd (omega arith)
+chunk_whole (a ∷ b ∷ c ∷ d ∷ more) size call e = let z : ◌≡◌ {A = ℕ} 0 1 = cc in absurd (omega arith)
 
-pub front_long : (ns : List ℕ) (size : ℕ) → 3 ≤ length ns
-    → read_call (get_or ns 0 0) (get_or ns 1 0) (get_or ns 2 0) size ≡ front_call ns size
-front_long [] size h = absurd (omega arith)
-front_long (a ∷ []) size h = absurd (omega arith)
-front_long (a ∷ b ∷ []) size h = absurd (omega arith)
-front_long (a ∷ b ∷ c ∷ rest) size h = refl
+-- what is left of a list, in a first chunk and the rest
+pub record Cut (left chunk rest : List ℕ) : Type 0 where
+  pub parts : left ≡ chunk ++ rest
+  pub size : length chunk ≡ min 3 (length left)
+  pub some : 0 < length left
 
-pub whole_when : (n : ℕ) (r : Result ListedCall CallFault) → 3 ≤ n → ReadWhole n r
-whole_when n (Ok call) h = h
-whole_when n (Err why) h = tt
+-- as the chunks of three numbers come
+pub next_cut : (s t : Chunks ℕ) (chunk : Bor (List ℕ)) → chunks_size s ≡ 3 → chunks_steps s (Some chunk) t
+    → Cut (chunks_rest s) chunk.now (chunks_rest t)
+next_cut s t chunk three step = record {
+  parts = step.1.0;
+  size = step.1.1 ∙ ap (λ (n : ℕ). min n (length (chunks_rest s))) three;
+  some = step.1.2;
+}
 
--- what is read as a call from a place on is three numbers
-pub read_whole : (ns : List ℕ) (at : ℕ) (r : Result ListedCall CallFault) (call : ListedCall) → at ≤ length ns → r ≡ Ok call
-    → ReadWhole (length (take (length ns - at) (drop at ns))) r
-    → at + 3 ≤ length ns
-read_whole ns at r call h e whole =
-    let three : 3 ≤ length (take (length ns - at) (drop at ns)) = subst (ReadWhole _) e whole in
-    let size : length (drop at ns) ≡ length ns - at = length-drop at ns in
-    let part : take (length ns - at) (drop at ns) ≡ drop at ns = take_all (length ns - at) (drop at ns) (omega arith) in
-    omega (arith, ap length part)
-
--- numbers are read as the call at their front and what follows it
-pub reads_on : (text : List ℕ) (i : ℕ) (ns : List ℕ) → 0 < length ns
-    → read_from text i ns ≡ read_then text i (front_call ns (length text)) (read_from text (i + 1) (drop 3 ns))
+-- numbers are read as their first chunk and what follows it
+reads_first : (text : List ℕ) (i : ℕ) (chunk rest : List ℕ) → length chunk ≡ min 3 (length chunk + length rest) → 0 < length chunk + length rest
+    → read_from text i (chunk ++ rest) ≡ read_then text i (read_chunk chunk (length text)) (read_from text (i + 1) rest)
 unfolding read_from
-reads_on text i [] h = absurd (omega arith)
-reads_on text i (a ∷ []) h = refl
-reads_on text i (a ∷ b ∷ []) h = refl
-reads_on text i (a ∷ b ∷ c ∷ rest) h = refl
+reads_first text i [] rest s h = absurd (omega (arith, s))
+reads_first text i (a ∷ []) [] s h = refl
+reads_first text i (a ∷ []) (b ∷ rest) s h = absurd (omega (arith, s))
+reads_first text i (a ∷ b ∷ []) [] s h = refl
+reads_first text i (a ∷ b ∷ []) (c ∷ rest) s h = absurd (omega (arith, s))
+reads_first text i (a ∷ b ∷ c ∷ []) rest s h = refl
+reads_first text i (a ∷ b ∷ c ∷ d ∷ more) rest s h = absurd (omega (arith, s))
 
--- of a list, from a place on, with what its front was read as
-pub reads_at : (text : List ℕ) (i : ℕ) (ns : List ℕ) (at : ℕ) (r : Result ListedCall CallFault) → at < length ns
-    → r ≡ front_call (take (length ns - at) (drop at ns)) (length text)
-    → read_from text i (drop at ns) ≡ read_then text i r (read_from text (i + 1) (drop (at + 3) ns))
-reads_at text i ns at r h e =
-    let size : length (drop at ns) ≡ length ns - at = length-drop at ns in
-    let part : take (length ns - at) (drop at ns) ≡ drop at ns = take_all (length ns - at) (drop at ns) (omega arith) in
-    reads_on text i (drop at ns) (omega arith)
-    ∙ ap (λ (x : Result ListedCall CallFault). read_then text i x (read_from text (i + 1) (drop 3 (drop at ns)))) (sym (e ∙ ap (λ (l : List ℕ). front_call l (length text)) part))
-    ∙ ap (λ (l : List ℕ). read_then text i r (read_from text (i + 1) l)) (drop-drop 3 at ns)
+-- with what the chunk was read as
+pub reads_on : (text : List ℕ) (i : ℕ) {left chunk rest : List ℕ} (r : Result ListedCall CallFault) → Cut left chunk rest
+    → r ≡ read_chunk chunk (length text) → read_from text i left ≡ read_then text i r (read_from text (i + 1) rest)
+reads_on text i {left} {chunk} {rest} r cut read =
+    let whole : length left ≡ length chunk + length rest = ap length cut.parts ∙ length-append chunk rest in
+    ap (read_from text i) cut.parts
+    ∙ reads_first text i chunk rest (cut.size ∙ ap (min 3) whole) (omega (arith, whole, cut.some))
+    ∙ ap (λ (x : Result ListedCall CallFault). read_then text i x (read_from text (i + 1) rest)) (sym read)
 
-pub none_left : (text : List ℕ) (i : ℕ) (ns : List ℕ) (at : ℕ) → length ns ≤ at → read_from text i (drop at ns) ≡ listed []
+pub none_left : (text : List ℕ) (i : ℕ) (left : List ℕ) → length left ≡ 0 → read_from text i left ≡ listed []
 unfolding read_from
-none_left text i ns at h = ap (read_from text i) (drop_of_length-le ns h)
+none_left text i [] h = refl
+none_left text i (a ∷ rest) h = absurd (omega (arith, h))
 
 -- the verdict where n calls were read before
 abbrev pub verdict_from : ℕ → Reading → ℕ → Result ℕ ReplayError
@@ -105,35 +103,36 @@ verdict_fails n i text NoCall rest room = refl
 verdict_fails n i text NoStretch rest room = refl
 
 -- a check under way: the verdict on what is left, with the i calls passed, is that on the whole list
-pub record Passed (text calls : List ℕ) (room at i : ℕ) : Type 0 where
-  pub within : at ≤ length calls
-  pub few : i ≤ at
-  pub same : verdict_of (read_calls text calls) room ≡ verdict_from i (read_from text i (drop at calls)) room
+pub record Passed (text calls : List ℕ) (room i : ℕ) (left : List ℕ) : Type 0 where
+  pub whole : 3 * i + length left ≡ length calls
+  pub same : verdict_of (read_calls text calls) room ≡ verdict_from i (read_from text i left) room
 
-module _ {text calls : List ℕ} {room at i : ℕ} (p : Passed text calls room at i) where
-  finds : (r : Result ListedCall CallFault) → at < length calls → r ≡ front_call (take (length calls - at) (drop at calls)) (length text)
-      → verdict_of (read_calls text calls) room ≡ verdict_from i (read_then text i r (read_from text (i + 1) (drop (at + 3) calls))) room
-  finds r h e = p.same ∙ ap (λ (x : Reading). verdict_from i x room) (reads_at text i calls at r h e)
+module _ {text calls : List ℕ} {room i : ℕ} {left : List ℕ} (p : Passed text calls room i left) where
+  module _ {chunk rest : List ℕ} (cut : Cut left chunk rest) where
+    finds : (r : Result ListedCall CallFault) → r ≡ read_chunk chunk (length text)
+        → verdict_of (read_calls text calls) room ≡ verdict_from i (read_then text i r (read_from text (i + 1) rest)) room
+    finds r read = p.same ∙ ap (λ (x : Reading). verdict_from i x room) (reads_on text i r cut read)
 
-  pub fails : (why : CallFault) → at < length calls → Err why ≡ front_call (take (length calls - at) (drop at calls)) (length text)
-      → verdict_of (read_calls text calls) room ≡ Err (fault_at why i)
-  fails why h e = finds (Err why) h e ∙ verdict_fails i i text why (read_from text (i + 1) (drop (at + 3) calls)) room
+    pub fails : (why : CallFault) (j : ℕ) → j ≡ i → Err why ≡ read_chunk chunk (length text)
+        → verdict_of (read_calls text calls) room ≡ Err (fault_at why j)
+    fails why j e read = rw e (finds (Err why) read ∙ verdict_fails i i text why (read_from text (i + 1) rest) room)
 
-  -- one call more
-  pub passes : (call : ListedCall) → at < length calls → at + 3 ≤ length calls
-      → Ok call ≡ front_call (take (length calls - at) (drop at calls)) (length text) → Passed text calls room (at + 3) (i + 1)
-  passes call h whole e = record {
-    within = whole;
-    few = omega (arith, p.few);
-    same = finds (Ok call) h e ∙ verdict_goes_on i (call_of text call) (read_from text (i + 1) (drop (at + 3) calls)) room;
-  }
+    -- one call more
+    pub passes : (call : ListedCall) (j : ℕ) → j ≡ i + 1 → Ok call ≡ read_chunk chunk (length text) → Passed text calls room j rest
+    passes call j e read = rw e record {
+      whole = omega (arith, chunk_whole chunk (length text) call read, p.whole, ap length cut.parts, length-append chunk rest);
+      same = finds (Ok call) read ∙ verdict_goes_on i (call_of text call) (read_from text (i + 1) rest) room;
+    }
 
   -- no call left
-  ended : length calls ≤ at → verdict_of (read_calls text calls) room ≡ verdict_from i (listed []) room
-  ended h = p.same ∙ ap (λ (x : Reading). verdict_from i x room) (none_left text i calls at h)
+  ended : length left ≡ 0 → verdict_of (read_calls text calls) room ≡ verdict_from i (listed []) room
+  ended h = p.same ∙ ap (λ (x : Reading). verdict_from i x room) (none_left text i left h)
 
-  pub ends_with_room : length calls ≤ at → 23 * (i + 1) ≤ room → verdict_of (read_calls text calls) room ≡ Ok i
-  ends_with_room h fits = ended h ∙ verdict_room i room fits
+  counted : length left ≡ 0 → length calls / 3 ≡ i
+  counted h = omega (arith, p.whole)
 
-  pub ends_without : length calls ≤ at → room < 23 * (i + 1) → verdict_of (read_calls text calls) room ≡ Err error.NoRoom
-  ends_without h short = ended h ∙ verdict_no_room i room short
+  pub ends_with_room : length left ≡ 0 → 23 * (length calls / 3 + 1) ≤ room → verdict_of (read_calls text calls) room ≡ Ok (length calls / 3)
+  ends_with_room h fits = rw (counted h) (ended h ∙ verdict_room i room (omega (arith, counted h)))
+
+  pub ends_without : length left ≡ 0 → room < 23 * (length calls / 3 + 1) → verdict_of (read_calls text calls) room ≡ Err error.NoRoom
+  ends_without h short = ended h ∙ verdict_no_room i room (omega (arith, counted h))

@@ -38,17 +38,13 @@ abbrev pub ReadFits : ℕ → Result ListedCall CallFault → Type 0
 ReadFits size (Ok call) = FitsIn size call
 ReadFits size (Err why) = Unit
 
--- the call at the front of some numbers
-abbrev pub front_call : List ℕ → ℕ → Result ListedCall CallFault
-front_call [] size = Err NoCall
-front_call (a ∷ []) size = Err NoCall
-front_call (a ∷ b ∷ []) size = Err NoCall
-front_call (a ∷ b ∷ c ∷ rest) size = read_call a b c size
-
--- a call that is read has its three numbers
-abbrev pub ReadWhole : ℕ → Result ListedCall CallFault → Type 0
-ReadWhole size (Ok call) = 3 ≤ size
-ReadWhole size (Err why) = Unit
+-- what a chunk of a list is read as: three numbers; a last chunk may have fewer
+abbrev pub read_chunk : List ℕ → ℕ → Result ListedCall CallFault
+read_chunk [] size = Err NoCall
+read_chunk (a ∷ []) size = Err NoCall
+read_chunk (a ∷ b ∷ []) size = Err NoCall
+read_chunk (a ∷ b ∷ c ∷ []) size = read_call a b c size
+read_chunk (a ∷ b ∷ c ∷ d ∷ more) size = Err NoCall
 
 -- a list that can be played, with room for so many numbers
 abbrev pub Playable : Reading → ℕ → Type 0

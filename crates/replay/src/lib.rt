@@ -5,7 +5,7 @@ ghost use Rattle.std.specs.Prelude.{◌≡◌, ◌++◌, ℕ, ◌≤◌, length,
 ghost use Rattle.layout.specs.Layout.{onto_if_room, numbered, gave};
 ghost use Rattle.machine.specs.Theorem.{reply_to};
 ghost use Rattle.replay.specs.Replay.{read_stretch, read_budget, read_call, call_of, call_gave, call_played, read_calls, replayed, replay_gave};
-ghost use Rattle.replay.specs.ReplayParts.{front_call, fault_at, verdict_of, FitsIn, ReadFits, ReadWhole, Playable, core_played, after_play};
+ghost use Rattle.replay.specs.ReplayParts.{read_chunk, fault_at, verdict_of, FitsIn, ReadFits, Playable, core_played, after_play};
 
 use layout::Numbered;
 use r8_core::Core;
@@ -89,36 +89,31 @@ fn read_call(kind: u64, first: u64, second: u64, size: usize) -> Result<ListedCa
     }
 }
 
-// The call at the front of some numbers; fewer than three are none.
-#[tactic(auto, using(crate::proofs::Readings::front_short, crate::proofs::Readings::front_long, crate::proofs::Readings::whole_when))]
-fn front_call(calls: &[u64], size: usize) -> Result<ListedCall, CallFault>
-    ensures value { result ≡ front_call calls.now size }
+// The call that a chunk of a list is.
+fn read_chunk(chunk: &[u64], size: usize) -> Result<ListedCall, CallFault>
+    ensures value { result ≡ read_chunk chunk.now size }
     ensures fits { ReadFits size result }
-    ensures whole { ReadWhole (length calls.now) result }
 {
-    if calls.len() < 3 {
+    let [kind, first, second] = chunk else {
         return Err(CallFault::NoCall);
-    }
-    read_call(calls[0], calls[1], calls[2], size)
+    };
+    read_call(*kind, *first, *second, size)
 }
 
 // Whether a list can be played, with room for so many numbers: 23 for each answer, and 23 for what the list leaves.
 fn check(calls: &[u64], text: &[u8], room: usize) -> Result<usize, ReplayError>
     ensures { result ≡ verdict_of (read_calls text.now calls.now) room }
 {
-    let mut at = 0;
-    let mut i = 0;
-    while at < calls.len() {
-        if let Err(why) = front_call(&calls[at..], text.len()) {
+    for (i, chunk) in calls.chunks(3).enumerate() {
+        if let Err(why) = read_chunk(chunk, text.len()) {
             return Err(fault_at(why, i));
         }
-        at += 3;
-        i += 1;
     }
-    if room / 23 <= i {
+    let count = calls.len() / 3;
+    if room / 23 <= count {
         return Err(ReplayError::NoRoom);
     }
-    Ok(i)
+    Ok(count)
 }
 
 // One call on a core.
@@ -177,17 +172,13 @@ fn play_all(calls: &[u64], text: &[u8], memory: &mut [u16], answers: &mut [u64])
     ensures { core_played (read_calls text.now calls.now) memory.old answers.old ≡ after_play memory.new answers.new }
 {
     let mut core = r8_core::fresh();
-    let mut at = 0;
-    let mut to = 0;
-    while at < calls.len() {
-        let call = front_call(&calls[at..], text.len()).unwrap();
+    for (i, chunk) in calls.chunks(3).enumerate() {
+        let call = read_chunk(chunk, text.len()).unwrap();
         let played = play(core, call, text, memory);
-        put_at(answers, to, played.numbers);
+        put_at(answers, 23 * i, played.numbers);
         core = played.core;
-        at += 3;
-        to += 23;
     }
-    put_at(answers, to, layout::left_numbers(core));
+    put_at(answers, 23 * (calls.len() / 3), layout::left_numbers(core));
 }
 
 // Plays a list of calls on a fresh core and the lent memory, and writes the answers and then what the list left; a list that cannot be

@@ -1,7 +1,7 @@
 // Scripts: calls as lines of text, read into the numbers that replay::replay takes, and listings among them.
 #![tactic(auto)]
 
-ghost use Rattle.std.specs.Prelude.{◌≡◌, ◌+◌, ◌*◌, ◌≤◌, ◌<◌, length};
+ghost use Rattle.std.specs.Prelude.{◌≡◌, ◌+◌, ◌*◌, ◌≤◌, ◌<◌, length, unwrap_or};
 ghost use Rattle.script.specs.Commands.{begins, says, is_digit, value_of, decimal_of, run_of, listing_of, listing_at, with_numbers, command_of};
 ghost use Rattle.script.specs.Script.{outside, is_load, is_end, inside, meaning_of, after_outside, after_inside, place_after, followed, script_of, gave, script_read};
 ghost use Rattle.script.specs.ScriptParts.{script_at, Within, verdict_of, at_end_answer, calls_in, put, Fits, calls_written};
@@ -172,22 +172,19 @@ fn run_of(budget: Decimal) -> Command
 }
 
 // A listing, given its address, the byte behind it and its count.
-fn listing_of(first: u32, between: u8, count: Decimal) -> Command
-    ensures { result ≡ listing_of first between count }
+fn listing_of(first: Option<u16>, between: u8, count: Decimal) -> Command
+    ensures { result ≡ listing_of (unwrap_or first 65536) between count }
 {
     let Decimal::Value(n) = count else {
         return Command::Unknown;
     };
-    if 65536 <= first {
+    let Some(first) = first else {
         return Command::Unknown;
-    }
+    };
     if between != b' ' {
         return Command::Unknown;
     }
-    Command::Listing {
-        first: first as u16,
-        count: n,
-    }
+    Command::Listing { first, count: n }
 }
 
 // What follows `listing` and its space.

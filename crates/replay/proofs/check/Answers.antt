@@ -1,26 +1,31 @@
-use Rattle.std.proofs.Common.{sym, ap, ◌∙◌, arith}
-use Rattle.std.specs.declared.result.Result.TheVariants.{Err}
+use Rattle.std.proofs.Common.{Err, sym, ap, ◌∙◌, arith}
+use Rattle.std.specs.Iterator.Adapters.{enumerate_source}
 use Rattle.replay.specs.declared.ReplayError.{ReplayError}
-use Rattle.replay.proofs.Readings.{fails, passes, ends_with_room, ends_without, read_whole}
+use Rattle.replay.proofs.Readings.{next_cut, fails, passes, ends_with_room, ends_without}
 use Rattle.replay.proofs.check.Goals as goal
 
 pub returns-in-Err : goal.returns-in-Err
 returns-in-Err c =
+    let l = c.loop-i in
+    let steps = c.in-Some.ensures.steps in
     ap (λ (e : ReplayError). Err e) c.fault_at.ensures
-    ∙ sym (fails c.loop-at.invariant c.in-Err.why c.loop-at-test.true (sym c.in-Err.is ∙ c.front_call.ensures.value))
+    ∙ sym
+    (fails l.invariant.0 (next_cut (enumerate_source l.i-iterator) (enumerate_source c.next.new.self) c.in-Some.chunk l.invariant.1 steps.0) c.in-Err.why c.in-Some.i steps.1
+    (sym c.in-Err.is ∙ c.read_chunk.ensures.value))
 
 -- one call more
-pub loop-at-preserved : goal.loop-at-preserved
-loop-at-preserved c =
-    let l = c.loop-at in
-    let call = c.in_default in
-    let read = c.front_call in
-    passes l.invariant call.field-0 c.loop-at-test.true
-    (read_whole c.args.calls.now l.at read.result call.field-0 l.invariant.within call.is read.ensures.whole)
-    (sym call.is ∙ read.ensures.value)
+pub loop-i-preserved : goal.loop-i-preserved
+loop-i-preserved c =
+    let l = c.loop-i in
+    let steps = c.in-Some.ensures.steps in
+    let call = c.in_default in (
+      passes l.invariant.0 (next_cut (enumerate_source l.i-iterator) (enumerate_source c.next.new.self) c.in-Some.chunk l.invariant.1 steps.0) call.field-0 _ steps.2 (sym call.is ∙ c.read_chunk.ensures.value),
+      steps.0.0 ∙ l.invariant.1,
+    )
 
-pub returns-then-room-i : goal.returns-then-room-i
-returns-then-room-i c = sym (ends_without c.loop-at.invariant c.loop-at-test.false (omega (arith, c.if-room-i.true)))
+pub returns-then-room-count : goal.returns-then-room-count
+returns-then-room-count c =
+    sym (ends_without c.loop-i.invariant.0 c.in-None.ensures.steps.0.1.0 (omega (arith, c.if-room-count.true)))
 
 pub returns : goal.returns
-returns c = sym (ends_with_room c.loop-at.invariant c.loop-at-test.false (omega (arith, c.if-room-i.false)))
+returns c = sym (ends_with_room c.loop-i.invariant.0 c.in-None.ensures.steps.0.1.0 (omega (arith, c.if-room-count.false)))

@@ -1,9 +1,10 @@
-use Rattle.std.proofs.Common.{◌-◌, length}
+use Rattle.std.specs.Iterator.Adapters.{enumerate_source, enumerate_count}
+use Rattle.std.specs.Slice.Iter.{chunks_rest, chunks_size}
+use Rattle.std.specs.Prelude.{◌≡◌}
 use Rattle.replay.proofs.Readings.{Passed}
 use Rattle.replay.proofs.check.Given as goal
 
-abbrev pub invariant-loop-at : goal.invariant-loop-at
-invariant-loop-at l = Passed l.text l.calls l.room l.at l.i
-
-abbrev pub decreases-loop-at : goal.decreases-loop-at
-decreases-loop-at l = length l.calls - l.at
+abbrev pub invariant-loop-i : goal.invariant-loop-i
+invariant-loop-i l =
+    Passed l.text l.calls l.room (enumerate_count l.i-iterator) (chunks_rest (enumerate_source l.i-iterator))
+    × (chunks_size (enumerate_source l.i-iterator) ≡ 3)

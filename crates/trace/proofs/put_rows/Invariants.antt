@@ -1,4 +1,4 @@
-use Rattle.std.proofs.Common.{◌≡◌, ◌+◌, ◌-◌, ◌*◌, ◌++◌, length, drop}
+use Rattle.std.proofs.Common.{◌≡◌, ◌-◌, ◌*◌, ◌++◌, drop}
 use Rattle.trace.specs.Trace.{rows_of}
 use Rattle.trace.proofs.Rows.{under}
 use Rattle.trace.proofs.put_rows.Given as goal
