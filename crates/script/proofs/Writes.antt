@@ -94,27 +94,3 @@ module _ {text old : List ℕ} {start : LineStart} {to : ℕ} {list : List ℕ} 
     by : (p : Place) → at_end p ≡ calls r.left → list ≡ calls_written (script_of text) old
     by Outside q = let none : r.left ≡ [] = cc in sym (r.gives ∙ ap (λ (cs : List Call). sets list to (numbers_of cs)) none)
     by (Inside n from) q = absurd (not_calls q)
-
--- by the verdict
-read_count : (cs : List Call) {count : ℕ} → verdict_of (calls cs) ≡ Ok count → length cs ≡ count
-read_count cs e = cc
-
-not_read : {A : Type 0} {count : ℕ} {why : ScriptError} → Err why ≡ Ok count → A
-not_read e = let z : ◌≡◌ {A = ℕ} 0 1 = cc in absurd (omega arith)
-
-pub no_room : (x : Script) (old : List ℕ) (count : ℕ) → verdict_of x ≡ Ok count → length old / 3 < count → gave (Err error.NoRoom) old ≡ script_read x old
-no_room (calls cs) old count e h = rw (lt-leb (3 * length cs) (length old) (omega (arith, read_count cs e)))
-no_room (unreadable k) old count e h = not_read e
-
-pub fits_when : (x : Script) (old : List ℕ) (count : ℕ) → verdict_of x ≡ Ok count → count ≤ length old / 3 → Fits x (length old)
-fits_when (calls cs) old count e h = omega (arith, read_count cs e)
-fits_when (unreadable k) old count e h = not_read e
-
-pub as_written : (x : Script) (old : List ℕ) (count : ℕ) → verdict_of x ≡ Ok count → count ≤ length old / 3
-    → gave (Ok count) (calls_written x old) ≡ script_read x old
-as_written (calls cs) old count e h = rw (le-leb (3 * length cs) (length old) (omega (arith, read_count cs e)), read_count cs e)
-as_written (unreadable k) old count e h = not_read e
-
-pub as_unreadable : (x : Script) (old : List ℕ) (why : ScriptError) → verdict_of x ≡ Err why → gave (Err why) old ≡ script_read x old
-as_unreadable (calls cs) old why e = let z : ◌≡◌ {A = ℕ} 0 1 = cc in absurd (omega arith)
-as_unreadable (unreadable k) old why e = ap (λ (a : Result ℕ ScriptError). gave a old) (sym e)
