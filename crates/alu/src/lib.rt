@@ -24,16 +24,13 @@ fn top_bit(p: u16) -> bool
 fn with_all(value: u16, carry: bool, overflow: bool) -> Outcome
     ensures { result ≡ sets_all value carry overflow }
 {
-    let after = Flags {
-        n: 32768 <= value,
+    let flags = Flags {
+        n: top_bit(value),
         z: value == 0,
         c: carry,
         v: overflow,
     };
-    Outcome {
-        value: value,
-        flags: after,
-    }
+    Outcome { value, flags }
 }
 
 // A result that sets N and Z and keeps C and V.
@@ -46,28 +43,19 @@ fn with_nz(value: u16, flags: Flags) -> Outcome
 fn sum_overflows(p: bool, q: bool, r: bool) -> bool
     ensures { result ≡ sum_overflows p q r }
 {
-    if p {
-        if q { !r } else { false }
-    } else {
-        if q { false } else { r }
-    }
+    p == q && r != p
 }
 
 fn difference_overflows(p: bool, q: bool, r: bool) -> bool
     ensures { result ≡ difference_overflows p q r }
 {
-    if p {
-        if q { false } else { !r }
-    } else {
-        if q { r } else { false }
-    }
+    p != q && r != p
 }
 
 fn add(p: u16, q: u16) -> Outcome
     ensures { result ≡ added p q }
 {
-    let value = words::add(p, q);
-    let carry = 65536 <= p as u32 + q as u32;
+    let (value, carry) = p.overflowing_add(q);
     let overflow = sum_overflows(top_bit(p), top_bit(q), top_bit(value));
     with_all(value, carry, overflow)
 }
@@ -75,10 +63,9 @@ fn add(p: u16, q: u16) -> Outcome
 fn subtract(p: u16, q: u16) -> Outcome
     ensures { result ≡ subtracted p q }
 {
-    let value = words::subtract(p, q);
-    let carry = q <= p;
+    let (value, borrow) = p.overflowing_sub(q);
     let overflow = difference_overflows(top_bit(p), top_bit(q), top_bit(value));
-    with_all(value, carry, overflow)
+    with_all(value, !borrow, overflow)
 }
 
 // ADD, SUB, AND, OR, XOR of Ra and Rb.
@@ -99,15 +86,15 @@ pub fn constant(op: ConstantOp, p: u16, k: u8, flags: Flags) -> Outcome
     ensures { result ≡ constant_result op p k flags }
 {
     match op {
-        ConstantOp::Addi => add(p, k as u16),
-        ConstantOp::Subi => subtract(p, k as u16),
+        ConstantOp::Addi => add(p, u16::from(k)),
+        ConstantOp::Subi => subtract(p, u16::from(k)),
         ConstantOp::Ldl => Outcome {
-            value: p / 256 * 256 + k as u16,
-            flags: flags,
+            value: p / 256 * 256 + u16::from(k),
+            flags,
         },
         ConstantOp::Ldh => Outcome {
-            value: k as u16 * 256 + p % 256,
-            flags: flags,
+            value: u16::from(k) * 256 + p % 256,
+            flags,
         },
     }
 }
@@ -116,11 +103,12 @@ pub fn constant(op: ConstantOp, p: u16, k: u8, flags: Flags) -> Outcome
 pub fn unary(op: UnaryOp, p: u16, flags: Flags) -> Outcome
     ensures { result ≡ unary_result op p flags }
 {
-    match op {
-        UnaryOp::Sl0 => with_nz(words::shift_left(p, false), flags),
-        UnaryOp::Sl1 => with_nz(words::shift_left(p, true), flags),
-        UnaryOp::Sr0 => with_nz(words::shift_right(p, false), flags),
-        UnaryOp::Sr1 => with_nz(words::shift_right(p, true), flags),
-        UnaryOp::Not => with_nz(words::not(p), flags),
-    }
+    let value = match op {
+        UnaryOp::Sl0 => words::shift_left(p, false),
+        UnaryOp::Sl1 => words::shift_left(p, true),
+        UnaryOp::Sr0 => words::shift_right(p, false),
+        UnaryOp::Sr1 => words::shift_right(p, true),
+        UnaryOp::Not => words::not(p),
+    };
+    with_nz(value, flags)
 }

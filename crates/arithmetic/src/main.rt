@@ -3,185 +3,131 @@
 // or all set where a line says `from 1111`.
 #![tactic(auto)]
 
-ghost use Rattle.std.specs.Prelude.{◌≤◌};
-
 use alu::Outcome;
 use isa::{BinaryOp, ConstantOp, Flags, UnaryOp};
-use std::io;
+use std::{fmt, io};
 
-// Puts a byte into a line, and answers the index after it. Past the line's end it is lost.
-fn put(line: &mut [u8; 48], at: usize, byte: u8) -> usize
-    ensures { result ≤ 48 }
-{
-    if at < 48 {
-        line[at] = byte;
-        at + 1
-    } else {
-        48
+// N, Z, C, V.
+#[derive(Clone, Copy)]
+struct Nzcv(Flags);
+
+impl fmt::Display for Nzcv {
+    fn fmt<W: fmt::Write>(&self, f: &mut fmt::Formatter<W>) -> fmt::Result {
+        let Flags { n, z, c, v } = self.0;
+        write!(
+            f,
+            "{}{}{}{}",
+            u8::from(n),
+            u8::from(z),
+            u8::from(c),
+            u8::from(v)
+        )
     }
 }
 
-fn put_text(line: &mut [u8; 48], at: usize, text: &[u8]) -> usize
-    requires { at ≤ 48 }
-    ensures { result ≤ 48 }
-{
-    let mut next = at;
-    for i in 0..text.len() {
-        next = put(line, next, text[i]);
-    }
-    next
+// The flags before: all clear, or all set.
+#[derive(Clone, Copy)]
+enum Before {
+    Clear,
+    Set,
 }
 
-// A space and two digits.
-fn put_byte(line: &mut [u8; 48], at: usize, k: u8) -> usize
-    ensures { result ≤ 48 }
-{
-    let text = hexadecimal::word_text(k as u16);
-    let first = put(line, at, b' ');
-    let second = put(line, first, text[2]);
-    put(line, second, text[3])
-}
-
-// A space and four digits.
-fn put_word(line: &mut [u8; 48], at: usize, p: u16) -> usize
-    ensures { result ≤ 48 }
-{
-    let first = put(line, at, b' ');
-    put_text(line, first, &hexadecimal::word_text(p))
-}
-
-fn bit(set: bool) -> u8 {
-    if set { b'1' } else { b'0' }
-}
-
-// A space and N, Z, C, V.
-fn put_flags(line: &mut [u8; 48], at: usize, flags: Flags) -> usize
-    ensures { result ≤ 48 }
-{
-    let n = put(line, at, b' ');
-    let z = put(line, n, bit(flags.n));
-    let c = put(line, z, bit(flags.z));
-    let v = put(line, c, bit(flags.c));
-    put(line, v, bit(flags.v))
-}
-
-// All four flags clear, or all set.
-fn all_flags(set: bool) -> Flags {
-    Flags {
-        n: set,
-        z: set,
-        c: set,
-        v: set,
+impl Before {
+    fn flags(self) -> Flags {
+        let set = matches!(self, Before::Set);
+        Flags {
+            n: set,
+            z: set,
+            c: set,
+            v: set,
+        }
     }
 }
 
-// The flags before, if they are set.
-fn put_before(line: &mut [u8; 48], at: usize, set: bool) -> usize
-    requires { at ≤ 48 }
-    ensures { result ≤ 48 }
-{
-    if !set {
-        return at;
+impl fmt::Display for Before {
+    fn fmt<W: fmt::Write>(&self, f: &mut fmt::Formatter<W>) -> fmt::Result {
+        match self {
+            Before::Clear => Ok(()),
+            Before::Set => write!(f, " from {}", Nzcv(self.flags())),
+        }
     }
-    let flags = put_text(line, at, b" from");
-    put_flags(line, flags, all_flags(set))
 }
 
-// The outcome, and the line's end.
-fn put_outcome(line: &mut [u8; 48], at: usize, outcome: Outcome) -> usize
-    requires { at ≤ 48 }
-    ensures { result ≤ 48 }
-{
-    let value = put_text(line, at, b" =");
-    let flags = put_word(line, value, outcome.value);
-    let end = put_flags(line, flags, outcome.flags);
-    put(line, end, b'\n')
-}
+// The result and the flags after it.
+#[derive(Clone, Copy)]
+struct Shown(Outcome);
 
-fn print_line(rt: &impl Print, line: [u8; 48], end: usize) -> io::Result<()>
-    requires { end ≤ 48 }
-{
-    rt.write_all(&line[..end])
+impl fmt::Display for Shown {
+    fn fmt<W: fmt::Write>(&self, f: &mut fmt::Formatter<W>) -> fmt::Result {
+        let Outcome { value, flags } = self.0;
+        write!(f, "{value:04X} {}", Nzcv(flags))
+    }
 }
 
 fn show_binary(
     rt: &impl Print,
     op: BinaryOp,
-    name: &[u8],
+    name: &str,
     p: u16,
     q: u16,
-    set: bool,
+    before: Before,
 ) -> io::Result<()> {
-    let mut line = [0; 48];
-    let first = put_text(&mut line, 0, name);
-    let second = put_word(&mut line, first, p);
-    let before = put_word(&mut line, second, q);
-    let equals = put_before(&mut line, before, set);
-    let end = put_outcome(&mut line, equals, alu::binary(op, p, q, all_flags(set)));
-    print_line(rt, line, end)
+    let outcome = alu::binary(op, p, q, before.flags());
+    println!(rt; "{name} {p:04X} {q:04X}{before} = {}", Shown(outcome))
 }
 
 fn show_constant(
     rt: &impl Print,
     op: ConstantOp,
-    name: &[u8],
+    name: &str,
     p: u16,
     k: u8,
-    set: bool,
+    before: Before,
 ) -> io::Result<()> {
-    let mut line = [0; 48];
-    let first = put_text(&mut line, 0, name);
-    let second = put_word(&mut line, first, p);
-    let before = put_byte(&mut line, second, k);
-    let equals = put_before(&mut line, before, set);
-    let end = put_outcome(&mut line, equals, alu::constant(op, p, k, all_flags(set)));
-    print_line(rt, line, end)
+    let outcome = alu::constant(op, p, k, before.flags());
+    println!(rt; "{name} {p:04X} {k:02X}{before} = {}", Shown(outcome))
 }
 
-fn show_unary(rt: &impl Print, op: UnaryOp, name: &[u8], p: u16, set: bool) -> io::Result<()> {
-    let mut line = [0; 48];
-    let first = put_text(&mut line, 0, name);
-    let before = put_word(&mut line, first, p);
-    let equals = put_before(&mut line, before, set);
-    let end = put_outcome(&mut line, equals, alu::unary(op, p, all_flags(set)));
-    print_line(rt, line, end)
+fn show_unary(rt: &impl Print, op: UnaryOp, name: &str, p: u16, before: Before) -> io::Result<()> {
+    let outcome = alu::unary(op, p, before.flags());
+    println!(rt; "{name} {p:04X}{before} = {}", Shown(outcome))
 }
 
 fn show_add(rt: &impl Print, p: u16, q: u16) -> io::Result<()> {
-    show_binary(rt, BinaryOp::Add, b"ADD", p, q, false)
+    show_binary(rt, BinaryOp::Add, "ADD", p, q, Before::Clear)
 }
 
 fn show_sub(rt: &impl Print, p: u16, q: u16) -> io::Result<()> {
-    show_binary(rt, BinaryOp::Sub, b"SUB", p, q, false)
+    show_binary(rt, BinaryOp::Sub, "SUB", p, q, Before::Clear)
 }
 
 fn show_addi(rt: &impl Print, p: u16, k: u8) -> io::Result<()> {
-    show_constant(rt, ConstantOp::Addi, b"ADDI", p, k, false)
+    show_constant(rt, ConstantOp::Addi, "ADDI", p, k, Before::Clear)
 }
 
 fn show_subi(rt: &impl Print, p: u16, k: u8) -> io::Result<()> {
-    show_constant(rt, ConstantOp::Subi, b"SUBI", p, k, false)
+    show_constant(rt, ConstantOp::Subi, "SUBI", p, k, Before::Clear)
 }
 
 // AND, OR, XOR, NOT: C and V stay.
 fn show_logic(rt: &impl Print, p: u16, q: u16) -> io::Result<()> {
-    show_binary(rt, BinaryOp::And, b"AND", p, q, true)?;
-    show_binary(rt, BinaryOp::Or, b"OR", p, q, true)?;
-    show_binary(rt, BinaryOp::Xor, b"XOR", p, q, true)?;
-    show_unary(rt, UnaryOp::Not, b"NOT", p, true)
+    show_binary(rt, BinaryOp::And, "AND", p, q, Before::Set)?;
+    show_binary(rt, BinaryOp::Or, "OR", p, q, Before::Set)?;
+    show_binary(rt, BinaryOp::Xor, "XOR", p, q, Before::Set)?;
+    show_unary(rt, UnaryOp::Not, "NOT", p, Before::Set)
 }
 
-fn show_shifts(rt: &impl Print, p: u16, set: bool) -> io::Result<()> {
-    show_unary(rt, UnaryOp::Sl0, b"SL0", p, set)?;
-    show_unary(rt, UnaryOp::Sl1, b"SL1", p, set)?;
-    show_unary(rt, UnaryOp::Sr0, b"SR0", p, set)?;
-    show_unary(rt, UnaryOp::Sr1, b"SR1", p, set)
+fn show_shifts(rt: &impl Print, p: u16, before: Before) -> io::Result<()> {
+    show_unary(rt, UnaryOp::Sl0, "SL0", p, before)?;
+    show_unary(rt, UnaryOp::Sl1, "SL1", p, before)?;
+    show_unary(rt, UnaryOp::Sr0, "SR0", p, before)?;
+    show_unary(rt, UnaryOp::Sr1, "SR1", p, before)
 }
 
 // LDL, LDH: all flags stay.
-fn show_loads(rt: &impl Print, p: u16, k: u8, set: bool) -> io::Result<()> {
-    show_constant(rt, ConstantOp::Ldl, b"LDL", p, k, set)?;
-    show_constant(rt, ConstantOp::Ldh, b"LDH", p, k, set)
+fn show_loads(rt: &impl Print, p: u16, k: u8, before: Before) -> io::Result<()> {
+    show_constant(rt, ConstantOp::Ldl, "LDL", p, k, before)?;
+    show_constant(rt, ConstantOp::Ldh, "LDH", p, k, before)
 }
 
 // Document 01, 'Proof bench'.
@@ -192,7 +138,7 @@ fn show_worked(rt: &impl Print) -> io::Result<()> {
     show_addi(rt, 0xFFFF, 0xFF)?;
     show_addi(rt, 0x7FFF, 0x01)?;
     show_subi(rt, 0x8000, 0x01)?;
-    show_unary(rt, UnaryOp::Sr1, b"SR1", 0x9754, false)
+    show_unary(rt, UnaryOp::Sr1, "SR1", 0x9754, Before::Clear)
 }
 
 fn show_sums(rt: &impl Print) -> io::Result<()> {
@@ -202,7 +148,7 @@ fn show_sums(rt: &impl Print) -> io::Result<()> {
     show_add(rt, 0x8000, 0x8000)?;
     show_add(rt, 0xFFFF, 0xFFFF)?;
     show_add(rt, 0x8000, 0x7FFF)?;
-    show_binary(rt, BinaryOp::Add, b"ADD", 0x0001, 0x0001, true)
+    show_binary(rt, BinaryOp::Add, "ADD", 0x0001, 0x0001, Before::Set)
 }
 
 fn show_differences(rt: &impl Print) -> io::Result<()> {
@@ -212,7 +158,7 @@ fn show_differences(rt: &impl Print) -> io::Result<()> {
     show_sub(rt, 0x7FFF, 0xFFFF)?;
     show_sub(rt, 0xFFFF, 0x7FFF)?;
     show_sub(rt, 0x0001, 0x8000)?;
-    show_binary(rt, BinaryOp::Sub, b"SUB", 0x0001, 0x0002, true)
+    show_binary(rt, BinaryOp::Sub, "SUB", 0x0001, 0x0002, Before::Set)
 }
 
 fn main(rt: HostRuntime) -> io::Result<()> {
@@ -223,9 +169,9 @@ fn main(rt: HostRuntime) -> io::Result<()> {
     show_logic(&rt, 0xFF00, 0x80FF)?;
     show_logic(&rt, 0x0000, 0x0000)?;
     show_logic(&rt, 0xFFFF, 0xFFFF)?;
-    show_shifts(&rt, 0x8001, false)?;
-    show_shifts(&rt, 0x0000, false)?;
-    show_shifts(&rt, 0x8001, true)?;
-    show_loads(&rt, 0x1234, 0xAB, true)?;
-    show_loads(&rt, 0x1234, 0x00, false)
+    show_shifts(&rt, 0x8001, Before::Clear)?;
+    show_shifts(&rt, 0x0000, Before::Clear)?;
+    show_shifts(&rt, 0x8001, Before::Set)?;
+    show_loads(&rt, 0x1234, 0xAB, Before::Set)?;
+    show_loads(&rt, 0x1234, 0x00, Before::Clear)
 }

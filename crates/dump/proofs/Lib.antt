@@ -1,6 +1,5 @@
 -- Laws on what is written, and on what is answered; and the theorems.
 pub mod Writes
-pub mod Numbers
 pub mod Refusals
 pub mod Bytes
 pub mod Read

@@ -14,7 +14,12 @@ use Rattle.refusals.specs.Theorems.{First, NoneApplies, Means}
 use Rattle.refusals.proofs.First.{clash, no_more, more, first_exactly, none_applies, length_exactly}
 use Rattle.dump.specs.Dump.{listing_text, past_end, too_short, dump_number, written, refused, refused_at, refusal, Dumped, dumped}
 use Rattle.dump.specs.Theorems.{dump_numbers, DumpNumbers}
-use Rattle.dump.proofs.Numbers.{right_length}
+
+right_length : (L : ℕ) → wrong_length L ≡ false → L ≤ 65536
+right_length L = by (eqb L 0) where
+  by : (b : Bool) → cond b true (ltb 65536 L) ≡ false → L ≤ 65536
+  by true e = let z : ◌≡◌ {A = ℕ} 0 1 = cc in absurd (omega arith)
+  by false e = ltb-false 65536 L e
 
 above_means : (n m : ℕ) → Means (ltb n m) (n < m)
 above_means n m = (λ e. ltb-true n m e, λ e h. clash (lt-ltb n m h) e)

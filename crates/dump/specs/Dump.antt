@@ -1,14 +1,14 @@
 -- Document 02, note 1, 'Listings back out of memory': what is written, the numbers 1, 4 and 10, and what the call answers. `dumped` is what it is
 -- to give back, `dump_gave` what the code gave; the contract is that the two are equal. A memory is the list of its words, a text the list of its
 -- bytes.
-use Rattle.std.specs.Prelude.{Bool, cond, List, [], ◌∷◌, ◌++◌, ℕ, zero, suc, ◌+◌, ◌*◌, eqb, ltb, length, drop}
+use Rattle.std.specs.Prelude.{Bool, cond, List, [], ◌∷◌, ◌++◌, ℕ, zero, suc, ◌+◌, ◌*◌, eqb, ltb, length, drop, Result, Ok, Err}
 use Rattle.words.specs.Memory.{word_at}
 use Rattle.refusals.specs.Refusals.{refusal_number, wrong_length, first_number}
 use Rattle.hexadecimal.specs.Digits.{word_text}
 use Rattle.lines.specs.Lines.{line_feed, space}
 use Rattle.listing.specs.Answers.{fault_number}
-use Rattle.dump.specs.declared.DumpAnswer.{DumpAnswer}
-use Rattle.dump.specs.declared.DumpAnswer.TheVariants.{Written, Refused, Faulty}
+use Rattle.r8_core.specs.declared.ListingError.{ListingError}
+use Rattle.r8_core.specs.declared.ListingError.TheVariants.{Refused, Faulty}
 
 -- 'address, space, word, LF, ten bytes each, capitals'
 abbrev pub entry_text : ℕ → ℕ → List ℕ
@@ -53,10 +53,10 @@ dumped memory first count text =
     (record { answer = refusal (dump_number (length memory) first count (length text)); text = text })
 
 -- what the code gave back, read so: the papers' number and values for each case
-abbrev pub answer_of : DumpAnswer → Answer
-answer_of (Written bytes) = written bytes
-answer_of (Refused why) = refused (refusal_number why)
-answer_of (Faulty fault offset) = refused_at (fault_number fault) offset
+abbrev pub answer_of : Result ℕ ListingError → Answer
+answer_of (Ok bytes) = written bytes
+answer_of (Err (Refused why)) = refused (refusal_number why)
+answer_of (Err (Faulty at)) = refused_at (fault_number at.fault) at.offset
 
-abbrev pub dump_gave : DumpAnswer → List ℕ → Dumped
+abbrev pub dump_gave : Result ℕ ListingError → List ℕ → Dumped
 dump_gave answer text = record { answer = answer_of answer; text = text }

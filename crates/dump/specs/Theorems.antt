@@ -1,7 +1,7 @@
 -- Document 02, note 1, said a second time, for every memory, range and text: which number is answered and when, what every byte of the text then
 -- is, and that a load of what was written gives the words back. Six statements, proved in proofs/Refusals.antt, proofs/Bytes.antt,
 -- proofs/LoadedBack.antt and proofs/Apart.antt.
-use Rattle.std.specs.Prelude.{◌≡◌, ◌↔◌, ◌⊎◌, List, [], ◌∷◌, ℕ, ◌+◌, ◌*◌, ◌/◌, ◌%◌, ◌≤◌, ◌<◌, length, get_or, take}
+use Rattle.std.specs.Prelude.{◌≡◌, ◌↔◌, ◌⊎◌, List, [], ◌∷◌, ℕ, ◌+◌, ◌*◌, ◌/◌, ◌%◌, ◌≤◌, ◌<◌, length, get_or, take, Result, Ok, Err}
 use Rattle.words.specs.Memory.{word_at}
 use Rattle.refusals.specs.Refusals.{refusal_number}
 use Rattle.refusals.specs.Theorems.{First, NoneApplies}
@@ -11,9 +11,9 @@ use Rattle.listing.specs.declared.Fault.{Fault}
 use Rattle.hexadecimal.specs.Theorems.{capitals}
 use Rattle.r8_core.specs.Calls.{stored, Reply, load}
 use Rattle.r8_core.specs.declared.Core.{Core}
+use Rattle.r8_core.specs.declared.ListingError.{ListingError}
+use Rattle.r8_core.specs.declared.ListingError.TheVariants.{Refused, Faulty}
 use Rattle.dump.specs.Dump.{written, refused, refused_at, Dumped, dumped, answer_of}
-use Rattle.dump.specs.declared.DumpAnswer.{DumpAnswer}
-use Rattle.dump.specs.declared.DumpAnswer.TheVariants.{Written, Refused, Faulty}
 
 -- the numbers in their order: 'L is 0 or above 65,536', 'First address plus count above L', 'the lent text is shorter than ten bytes a word'
 abbrev pub dump_numbers : List ℕ → ℕ → ℕ → List ℕ → List (ℕ × Type 0)
@@ -91,12 +91,12 @@ WholeMemory =
 
 -- 'this paper's number and values for each of its cases': different answers are read differently (proved as `dump_apart`)
 abbrev pub DumpApart : Type 0
-DumpApart = (x y : DumpAnswer) → answer_of x ≡ answer_of y → x ≡ y
+DumpApart = (x y : Result ℕ ListingError) → answer_of x ≡ answer_of y → x ≡ y
 
 -- and each as its own bytes, number, or number and offset (proved as `dump_read`)
 abbrev pub DumpRead : Type 0
 DumpRead =
     (n : ℕ) (why : Refusal) (fault : Fault)
-    → (answer_of (Written n) ≡ written n)
-    × (answer_of (Refused why) ≡ refused (refusal_number why))
-    × (answer_of (Faulty fault n) ≡ refused_at (fault_number fault) n)
+    → (answer_of (Ok n) ≡ written n)
+    × (answer_of (Err (Refused why)) ≡ refused (refusal_number why))
+    × (answer_of (Err (Faulty (record { fault = fault; offset = n }))) ≡ refused_at (fault_number fault) n)

@@ -2,83 +2,71 @@
 #![tactic(auto)]
 
 ghost use Rattle.std.specs.Prelude.{◌≡◌, ◌++◌, ◌+◌, ◌*◌, ◌≤◌, length, drop};
-ghost use Rattle.std.proofs.lemmas.List.Edits.{sets};
-ghost use Rattle.hexadecimal.specs.Digits.{word_text};
 ghost use Rattle.dump.specs.Dump.{entry_text, listing_text, past_end, dump_gave, dumped};
 
-use listing::Fault;
+use listing::{Fault, FaultAt};
+use r8_core::ListingError;
 use refusals::Refusal;
 
 // The bytes of a line: address, space, word, LF.
 const LINE: usize = 10;
 
-// How many bytes were written; or why none was: number 1 or 10, or 4 with its offset, which is 0.
-#[derive(Drop)]
-pub enum DumpAnswer {
-    Written(usize),
-    Refused(Refusal),
-    Faulty(Fault, usize),
-}
+// A range has no line of its own, so the offset of its fault is 0.
+const PAST_END: FaultAt = FaultAt {
+    fault: Fault::PastEnd,
+    offset: 0,
+};
 
 // Whether first plus count is above the limit; the sum itself may be above every usize.
 fn past_end(limit: usize, first: usize, count: usize) -> bool
     ensures { result ≡ past_end limit first count }
 {
-    if limit < first {
-        return true;
-    }
-    limit - first < count
+    limit < first || limit - first < count
 }
 
-// A word's four digits, from a place of the text on.
-fn put_word(text: &mut [u8], at: usize, word: u16)
-    requires { at + 4 ≤ length text.old }
-    ensures { text.new ≡ sets text.old at (word_text word) }
+// A line, of ten bytes.
+fn line(address: u16, word: u16) -> [u8; LINE]
+    ensures { result ≡ entry_text address word }
 {
-    let digits = hexadecimal::word_text(word);
-    text[at] = digits[0];
-    text[at + 1] = digits[1];
-    text[at + 2] = digits[2];
-    text[at + 3] = digits[3];
+    let mut line = [b' '; LINE];
+    line[..4].copy_from_slice(&hexadecimal::word_text(address));
+    line[5..9].copy_from_slice(&hexadecimal::word_text(word));
+    line[9] = b'\n';
+    line
 }
 
-// A line, from a place of the text on.
-fn put_line(text: &mut [u8], at: usize, address: u16, word: u16)
-    requires { at + 10 ≤ length text.old }
-    ensures { text.new ≡ sets text.old at (entry_text address word) }
-{
-    put_word(text, at, address);
-    text[at + 4] = b' ';
-    put_word(text, at + 5, word);
-    text[at + 9] = b'\n';
-}
-
-// The lines of a range that lies in the memory, into a text that has room for them.
+// The lines of a range that lies in the memory, into a text that has room for them. By places, and not over `chunks_exact_mut`, of which the
+// library does not say what the text then holds.
+#[tactic(auto, unfolding(crate::specs::Dump::listing_text))]
 fn put_lines(memory: &[u16], first: usize, count: usize, text: &mut [u8])
     requires { (first + count ≤ length memory.now) × (length memory.now ≤ 65536) × (10 * count ≤ length text.old) }
     ensures { text.new ≡ listing_text memory.now first count ++ drop (10 * count) text.old }
 {
-    for i in 0..count {
-        let address = first + i;
-        put_line(text, LINE * i, address as u16, memory[address]);
+    for (i, word) in memory[first..first + count].iter().enumerate() {
+        text[LINE * i..LINE * (i + 1)].copy_from_slice(&line((first + i) as u16, *word));
     }
 }
 
 // Words of the memory, count of them from the address first on, as listing lines from the text's first byte on; what is past them stays.
-// Refused with 1, 4 or 10, the first that applies, it leaves the text as it was.
+// It gives how many bytes were written. Refused with 1, 4 (whose offset is 0) or 10, the first that applies, it leaves the text as it was.
 #[tactic(auto, unfolding(crate::specs::Dump::dumped, crate::specs::Dump::dump_number, refusals::specs::Refusals::first_number))]
-pub fn listing(memory: &[u16], first: usize, count: usize, text: &mut [u8]) -> DumpAnswer
+pub fn listing(
+    memory: &[u16],
+    first: usize,
+    count: usize,
+    text: &mut [u8],
+) -> Result<usize, ListingError>
     ensures { dump_gave result text.new ≡ dumped memory.now first count text.old }
 {
     if refusals::wrong_length(memory.len()) {
-        return DumpAnswer::Refused(Refusal::WrongLength);
+        return Err(Refusal::WrongLength.into());
     }
     if past_end(memory.len(), first, count) {
-        return DumpAnswer::Faulty(Fault::PastEnd, 0);
+        return Err(PAST_END.into());
     }
     if text.len() / LINE < count {
-        return DumpAnswer::Refused(Refusal::ShortText);
+        return Err(Refusal::ShortText.into());
     }
     put_lines(memory, first, count, text);
-    DumpAnswer::Written(LINE * count)
+    Ok(LINE * count)
 }

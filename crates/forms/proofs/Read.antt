@@ -3,4 +3,4 @@ use mathlib.Core.Path.{refl}
 use Rattle.forms.specs.Theorems.{FormsRead}
 
 pub forms_read : FormsRead
-forms_read = (λ form. refl, refl, λ word. refl, refl)
+forms_read = (λ form. refl, λ undefined. refl, λ word. refl, λ out_of_range. refl)

@@ -1,6 +1,6 @@
 -- Words and forms, over all fields at one go, and what answers are read as: seven statements, proved in proofs/Theorems.antt,
 -- proofs/Means.antt and proofs/Read.antt.
-use Rattle.std.specs.Prelude.{◌≡◌, ◌↔◌, Bool, true, false, cond, ◌||◌, ℕ, ◌+◌, ◌-◌, ◌*◌, ◌%◌, ◌<◌, ltb, ℤ, pos}
+use Rattle.std.specs.Prelude.{◌≡◌, ◌↔◌, Bool, true, false, cond, ◌||◌, ℕ, ◌+◌, ◌-◌, ◌*◌, ◌%◌, ◌<◌, ltb, ℤ, pos, Ok, Err}
 use Rattle.std.proofs.Math.IntN.{sub_ℕ}
 use Rattle.isa.specs.Fields.{field_t, field_a, field_b, field_k, bits11to10}
 use Rattle.table.specs.Table.{kind_of}
@@ -9,8 +9,8 @@ use Rattle.isa.specs.declared.Kind.TheVariants.{Undefined, Binary, Constant, Ld,
 use Rattle.isa.specs.declared.Condition.TheVariants.{Always, Negative, Zero, Carry, Overflow}
 use Rattle.isa.specs.declared.Target.TheVariants.{Relative, Absolute, Displaced}
 use Rattle.forms.specs.declared.Form.{Form}
-use Rattle.forms.specs.declared.FormAnswer.{FormAnswer}
-use Rattle.forms.specs.declared.WordAnswer.{WordAnswer}
+use Rattle.forms.specs.declared.Undefined.{Undefined as NoForm}
+use Rattle.forms.specs.declared.OutOfRange.{OutOfRange}
 use Rattle.forms.specs.Answers.{given, refused, form_answer, word_answer}
 use Rattle.forms.specs.Operands.{no_register, no_constant, no_short, no_long}
 use Rattle.forms.specs.Reading.{word_to_form}
@@ -118,7 +118,7 @@ RefusedForm = (f : Form) (n : ℕ) → (form_to_word f ≡ refused n) ↔ ((out_
 -- `forms_read`)
 abbrev pub FormsRead : Type 0
 FormsRead =
-    ((form : Form) → form_answer (FormAnswer.Read form) ≡ given form)
-    × (form_answer FormAnswer.Undefined ≡ refused 6)
-    × ((word : ℕ) → word_answer (WordAnswer.Written word) ≡ given word)
-    × (word_answer WordAnswer.OutOfRange ≡ refused 5)
+    ((form : Form) → form_answer (Ok form) ≡ given form)
+    × ((undefined : NoForm) → form_answer (Err undefined) ≡ refused 6)
+    × ((word : ℕ) → word_answer (Ok word) ≡ given word)
+    × ((out_of_range : OutOfRange) → word_answer (Err out_of_range) ≡ refused 5)

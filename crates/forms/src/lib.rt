@@ -3,16 +3,15 @@
 
 ghost use Rattle.std.specs.Prelude.{◌≡◌, ◌%◌};
 ghost use Rattle.forms.specs.Answers.{form_answer, word_answer};
-ghost use Rattle.forms.specs.Operands.{signed, unsigned, operands_of, outside, fault, placed};
+ghost use Rattle.forms.specs.Operands.{operands_of, outside, fault, placed};
 ghost use Rattle.forms.specs.Reading.{form_with, word_to_form};
 ghost use Rattle.forms.specs.Writing.{written_at, parts, parts_of, form_to_word};
-ghost use Rattle.isa.specs.declared.Kind.TheVariants.{Jump, Call};
 
 use isa::{BinaryOp, Condition, ConstantOp, Kind, Target, UnaryOp};
 
 // An instruction with the operands that it has. Registers, constants and displacements that no word holds can be given: form
 // to word refuses them.
-#[derive(Drop)]
+#[derive(Clone, Copy)]
 pub enum Form {
     Binary { op: BinaryOp, t: u8, a: u8, b: u8 },
     Constant { op: ConstantOp, t: u8, k: u16 },
@@ -33,45 +32,21 @@ pub enum Form {
     CallDisplaced { d12: i16 },
 }
 
-// What word to form answers.
-#[derive(Drop)]
-pub enum FormAnswer {
-    Read(Form),
-    Undefined,
-}
+// What a word without a form is: the table has no such instruction.
+#[derive(Clone, Copy, PartialEq, Eq)]
+pub struct Undefined;
 
-// What form to word answers.
-#[derive(Drop)]
-pub enum WordAnswer {
-    Written(u16),
-    OutOfRange,
-}
+// What a form without a word is: an operand does not fit its field.
+#[derive(Clone, Copy, PartialEq, Eq)]
+pub struct OutOfRange;
 
 // All operands that there are: t, a, b, k, d10, d12.
 #[derive(Clone, Copy)]
 pub struct Operands(pub u8, pub u8, pub u8, pub u16, pub i16, pub i16);
 
 // A form taken apart: where its instruction stands in the table, and its operands, those that it lacks zero.
-#[derive(Drop)]
+#[derive(Clone, Copy)]
 pub struct Parts(pub u8, pub Operands);
-
-// A word as a signed number.
-fn signed_of(word: u16) -> i16
-    ensures { result ≡ signed word }
-{
-    if word < 32768 {
-        word as i16
-    } else {
-        !((65535 - word) as i16)
-    }
-}
-
-// A signed number as a word.
-pub fn unsigned_of(d: i16) -> u16
-    ensures { result ≡ unsigned d }
-{
-    if d < 0 { 65535 - (!d) as u16 } else { d as u16 }
-}
 
 #[tactic(auto, unfolding(crate::specs::Operands::operands_of))]
 fn operands_of(word: u16) -> Operands
@@ -80,86 +55,42 @@ fn operands_of(word: u16) -> Operands
     let t = isa::field_t(word);
     let a = isa::field_a(word);
     let b = isa::field_b(word);
-    let k = isa::field_k(word) as u16;
-    let d10 = signed_of(isa::field_d10(word));
-    let d12 = signed_of(isa::field_d12(word));
+    let k = u16::from(isa::field_k(word));
+    let d10 = isa::field_d10(word).cast_signed();
+    let d12 = isa::field_d12(word).cast_signed();
     Operands(t, a, b, k, d10, d12)
 }
 
-fn jump_form(condition: Condition, target: Target, x: Operands) -> FormAnswer
-    ensures { form_answer result ≡ form_with (Jump condition target) x }
-{
-    match target {
-        Target::Relative => FormAnswer::Read(Form::JumpRelative {
-            condition: condition,
-            a: x.1,
-        }),
-        Target::Absolute => FormAnswer::Read(Form::JumpAbsolute {
-            condition: condition,
-            a: x.1,
-        }),
-        Target::Displaced => FormAnswer::Read(Form::JumpDisplaced {
-            condition: condition,
-            d10: x.4,
-        }),
-    }
-}
-
-fn call_form(target: Target, x: Operands) -> FormAnswer
-    ensures { form_answer result ≡ form_with (Call target) x }
-{
-    match target {
-        Target::Relative => FormAnswer::Read(Form::CallRelative { a: x.1 }),
-        Target::Absolute => FormAnswer::Read(Form::CallAbsolute { a: x.1 }),
-        Target::Displaced => FormAnswer::Read(Form::CallDisplaced { d12: x.5 }),
-    }
-}
-
-fn form_with(kind: Kind, x: Operands) -> FormAnswer
+fn form_with(kind: Kind, x: Operands) -> Result<Form, Undefined>
     ensures { form_answer result ≡ form_with kind x }
 {
-    match kind {
-        Kind::Undefined => FormAnswer::Undefined,
-        Kind::Binary(op) => FormAnswer::Read(Form::Binary {
-            op: op,
-            t: x.0,
-            a: x.1,
-            b: x.2,
-        }),
-        Kind::Constant(op) => FormAnswer::Read(Form::Constant {
-            op: op,
-            t: x.0,
-            k: x.3,
-        }),
-        Kind::Ld => FormAnswer::Read(Form::Ld {
-            t: x.0,
-            a: x.1,
-            b: x.2,
-        }),
-        Kind::St => FormAnswer::Read(Form::St {
-            t: x.0,
-            a: x.1,
-            b: x.2,
-        }),
-        Kind::Unary(op) => FormAnswer::Read(Form::Unary {
-            op: op,
-            t: x.0,
-            a: x.1,
-        }),
-        Kind::Nop => FormAnswer::Read(Form::Nop),
-        Kind::Halt => FormAnswer::Read(Form::Halt),
-        Kind::Ldsp => FormAnswer::Read(Form::Ldsp { a: x.1 }),
-        Kind::Rts => FormAnswer::Read(Form::Rts),
-        Kind::Pop => FormAnswer::Read(Form::Pop { t: x.0 }),
-        Kind::Push => FormAnswer::Read(Form::Push { t: x.0 }),
-        Kind::Jump(condition, target) => jump_form(condition, target, x),
-        Kind::Call(target) => call_form(target, x),
-    }
+    let Operands(t, a, b, k, d10, d12) = x;
+    let form = match kind {
+        Kind::Undefined => return Err(Undefined),
+        Kind::Binary(op) => Form::Binary { op, t, a, b },
+        Kind::Constant(op) => Form::Constant { op, t, k },
+        Kind::Ld => Form::Ld { t, a, b },
+        Kind::St => Form::St { t, a, b },
+        Kind::Unary(op) => Form::Unary { op, t, a },
+        Kind::Nop => Form::Nop,
+        Kind::Halt => Form::Halt,
+        Kind::Ldsp => Form::Ldsp { a },
+        Kind::Rts => Form::Rts,
+        Kind::Pop => Form::Pop { t },
+        Kind::Push => Form::Push { t },
+        Kind::Jump(condition, Target::Relative) => Form::JumpRelative { condition, a },
+        Kind::Jump(condition, Target::Absolute) => Form::JumpAbsolute { condition, a },
+        Kind::Jump(condition, Target::Displaced) => Form::JumpDisplaced { condition, d10 },
+        Kind::Call(Target::Relative) => Form::CallRelative { a },
+        Kind::Call(Target::Absolute) => Form::CallAbsolute { a },
+        Kind::Call(Target::Displaced) => Form::CallDisplaced { d12 },
+    };
+    Ok(form)
 }
 
 // Word to form: the form, or number 6.
 #[tactic(auto, unfolding(crate::specs::Reading::word_to_form))]
-pub fn word_to_form(word: u16) -> FormAnswer
+pub fn word_to_form(word: u16) -> Result<Form, Undefined>
     ensures { form_answer result ≡ word_to_form word }
 {
     form_with(table::kind_of(word), operands_of(word))
@@ -168,54 +99,44 @@ pub fn word_to_form(word: u16) -> FormAnswer
 fn is_outside(least: i16, most: i16, d: i16) -> bool
     ensures { result ≡ outside least most d }
 {
-    if d < least { true } else { most < d }
+    !(least..=most).contains(&d)
 }
 
 #[tactic(auto, unfolding(crate::specs::Operands::fault))]
 fn has_fault(x: Operands) -> bool
     ensures { result ≡ fault x }
 {
-    if 15 < x.0 {
-        return true;
-    }
-    if 15 < x.1 {
-        return true;
-    }
-    if 15 < x.2 {
-        return true;
-    }
-    if 255 < x.3 {
-        return true;
-    }
-    if is_outside(-512, 511, x.4) {
-        return true;
-    }
-    is_outside(-2048, 2047, x.5)
+    let Operands(t, a, b, k, d10, d12) = x;
+    15 < t
+        || 15 < a
+        || 15 < b
+        || 255 < k
+        || is_outside(-512, 511, d10)
+        || is_outside(-2048, 2047, d12)
 }
 
 #[tactic(auto, unfolding(crate::specs::Operands::placed))]
 fn placed_of(x: Operands) -> u16
     ensures { result ≡ placed x % 65536 }
 {
-    let d10 = unsigned_of(x.4) % 1024;
-    let d12 = unsigned_of(x.5) % 4096;
-    let sum = x.0 as u32 * 256
-        + x.1 as u32 * 16
-        + x.2 as u32
-        + x.3 as u32
-        + d10 as u32
-        + d12 as u32;
+    let Operands(t, a, b, k, d10, d12) = x;
+    let sum = u32::from(t) * 256
+        + u32::from(a) * 16
+        + u32::from(b)
+        + u32::from(k)
+        + u32::from(d10.cast_unsigned() % 1024)
+        + u32::from(d12.cast_unsigned() % 4096);
     (sum % 65536) as u16
 }
 
 #[tactic(auto, unfolding(crate::specs::Writing::written_at))]
-fn write(entry: u8, x: Operands) -> WordAnswer
+fn write(entry: u8, x: Operands) -> Result<u16, OutOfRange>
     ensures { word_answer result ≡ written_at entry x }
 {
     if has_fault(x) {
-        return WordAnswer::OutOfRange;
+        return Err(OutOfRange);
     }
-    WordAnswer::Written(words::add(table::word_of(entry), placed_of(x)))
+    Ok(words::add(table::word_of(entry), placed_of(x)))
 }
 
 // An instruction with operands, by its place in the table.
@@ -263,10 +184,9 @@ pub fn parts_of(form: Form) -> Parts
 
 // Form to word: the word, its unused fields zero, or number 5.
 #[tactic(auto, unfolding(crate::specs::Writing::form_to_word))]
-pub fn form_to_word(form: Form) -> WordAnswer
+pub fn form_to_word(form: Form) -> Result<u16, OutOfRange>
     ensures { word_answer result ≡ form_to_word form }
 {
-    let parts = parts_of(form);
-    let x = parts.1;
-    write(parts.0, x)
+    let Parts(entry, x) = parts_of(form);
+    write(entry, x)
 }

@@ -9,7 +9,7 @@ fn digit(word: u16) -> u8
     ensures { result ≡ hex_digit word }
 {
     let d = (word % 16) as u8;
-    if d < 10 { 48 + d } else { 55 + d }
+    if d < 10 { b'0' + d } else { b'A' + (d - 10) }
 }
 
 // A word in four digits.

@@ -1,10 +1,10 @@
 // The instruction set of document 01: kinds, fields, conditions, targets and cycle counts.
 #![tactic(auto)]
 
-ghost use Rattle.std.specs.Prelude.{◌≡◌};
-ghost use Rattle.isa.specs.Fields.{field_o, field_t, field_a, field_b, field_k, d10, d12};
+ghost use Rattle.std.specs.Prelude.{◌≡◌, ◌<◌, ◌*◌};
+ghost use Rattle.isa.specs.Fields.{field_o, field_t, field_a, field_b, field_k, extended, d10, d12};
 ghost use Rattle.isa.specs.Control.{taken, address, jump_target, call_target, second_register};
-ghost use Rattle.isa.specs.Cost.{count_of, jump_class, class_of, cost_of};
+ghost use Rattle.isa.specs.Cost.{class_of, cost_of};
 
 #[derive(Clone, Copy)]
 pub enum BinaryOp {
@@ -118,20 +118,31 @@ pub fn field_k(word: u16) -> u8
     (word % 256) as u8
 }
 
+// A number below 2 * half, sign extended to a word: from half on, all bits above it are set.
+fn extended(half: u16, d: u16) -> u16
+    requires within { d < 2 * half }
+    requires fits { 2 * half < 65536 }
+    ensures { result ≡ extended half d }
+{
+    if d < half {
+        d
+    } else {
+        d.wrapping_sub(2 * half)
+    }
+}
+
 // The displacement of a jump, sign extended to a word.
 pub fn field_d10(word: u16) -> u16
     ensures { result ≡ d10 word }
 {
-    let d = word % 1024;
-    if d < 512 { d } else { d + 64512 }
+    extended(512, word % 1024)
 }
 
 // The displacement of a call, sign extended to a word.
 pub fn field_d12(word: u16) -> u16
     ensures { result ≡ d12 word }
 {
-    let d = word % 4096;
-    if d < 2048 { d } else { d + 61440 }
+    extended(2048, word % 4096)
 }
 
 // Does a jump on this condition go?
@@ -177,59 +188,31 @@ pub fn second_register(kind: Kind, t: u8, b: u8) -> u8
     ensures { result ≡ second_register kind t b }
 {
     match kind {
-        Kind::Undefined => b,
-        Kind::Binary(_) => b,
-        Kind::Constant(_) => t,
-        Kind::Ld => b,
-        Kind::St => b,
-        Kind::Unary(_) => b,
-        Kind::Nop => b,
-        Kind::Halt => b,
-        Kind::Ldsp => b,
-        Kind::Rts => b,
-        Kind::Pop => b,
-        Kind::Push => t,
-        Kind::Jump(_, _) => b,
-        Kind::Call(_) => b,
+        Kind::Constant(_) | Kind::Push => t,
+        Kind::Undefined | Kind::Binary(_) | Kind::Ld | Kind::St | Kind::Unary(_) => b,
+        Kind::Nop | Kind::Halt | Kind::Ldsp | Kind::Rts | Kind::Pop => b,
+        Kind::Jump(_, _) | Kind::Call(_) => b,
     }
 }
 
 // The cycle counts, by class.
 const COUNTS: [u32; 3] = [2, 3, 4];
 
-fn count_of(class: Class) -> u32
-    ensures { result ≡ count_of class }
-{
-    match class {
-        Class::Stop => COUNTS[0],
-        Class::Short => COUNTS[1],
-        Class::Full => COUNTS[2],
-    }
-}
-
-fn jump_class(goes: bool) -> Class
-    ensures { result ≡ jump_class goes }
-{
-    if goes { Class::Full } else { Class::Short }
-}
-
 fn class_of(kind: Kind, flags: Flags) -> Class
     ensures { result ≡ class_of kind flags }
 {
     match kind {
-        Kind::Undefined => Class::Stop,
-        Kind::Binary(_) => Class::Full,
-        Kind::Constant(_) => Class::Full,
-        Kind::Ld => Class::Full,
-        Kind::St => Class::Full,
-        Kind::Unary(_) => Class::Full,
+        Kind::Undefined | Kind::Halt => Class::Stop,
         Kind::Nop => Class::Short,
-        Kind::Halt => Class::Stop,
-        Kind::Ldsp => Class::Full,
-        Kind::Rts => Class::Full,
-        Kind::Pop => Class::Full,
-        Kind::Push => Class::Full,
-        Kind::Jump(condition, _) => jump_class(is_taken(condition, flags)),
+        Kind::Jump(condition, _) => {
+            if is_taken(condition, flags) {
+                Class::Full
+            } else {
+                Class::Short
+            }
+        }
+        Kind::Binary(_) | Kind::Constant(_) | Kind::Unary(_) => Class::Full,
+        Kind::Ld | Kind::St | Kind::Ldsp | Kind::Rts | Kind::Pop | Kind::Push => Class::Full,
         Kind::Call(_) => Class::Full,
     }
 }
@@ -239,5 +222,5 @@ fn class_of(kind: Kind, flags: Flags) -> Class
 pub fn cost(kind: Kind, flags: Flags) -> Cycles
     ensures { result.0 ≡ cost_of kind flags }
 {
-    Cycles(count_of(class_of(kind, flags)))
+    Cycles(COUNTS[class_of(kind, flags) as usize])
 }

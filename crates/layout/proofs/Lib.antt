@@ -2,4 +2,5 @@
 pub mod Sizes
 pub mod Onto
 pub mod Back
+pub mod Bank
 pub mod Theorems

@@ -1,39 +1,16 @@
--- Laws of `onto` and `onto_if_room`: where the numbers fit and where not, a turn of the loop that writes them, and numbers written in two parts.
+-- Laws of `onto` and `onto_if_room`: where the numbers fit, and numbers written in two parts.
 use mathlib.Core.Path.{◌≡◌, sym, ap, ◌∙◌}
 use mathlib.Core.Bool.{Bool, cond}
 use mathlib.Core.List.{List, [], ◌++◌, append-nil, append_assoc}
-use Prim.Native.Nat.{ℕ, suc, ◌+◌, ◌-◌, ◌<◌, ◌≤◌}
-use native.Mathlib.Numerals.{add-one}
+use Prim.Native.Nat.{ℕ, ◌+◌, ◌-◌, ◌≤◌}
 use native.Mathlib.Omega.{arith}
-use borrow.Author.Tests.{le-leb, lt-leb}
-use lib.ListN.{length, take, drop, get_or, set, length-append, length-drop, drop_of_length-le}
-use lib.Seq.{set_at, take_at, drop_at, take-suc, take_all, drop-cons, drop-drop, append_snoc, length-take-le}
+use borrow.Author.Tests.{le-leb}
+use lib.ListN.{length, take, drop, length-append, length-drop, drop_of_length-le}
+use lib.Seq.{take_at, drop_at, take_all, drop-drop, length-take-le}
 use Rattle.layout.specs.Layout.{onto, onto_if_room}
 
 pub fitting : (new old : List ℕ) → length new ≤ length old → onto_if_room new old ≡ onto new old
 fitting new old h = ap (λ (b : Bool). cond b (onto new old) old) (le-leb _ _ h)
-
-pub too_long : (new old : List ℕ) → length old < length new → onto_if_room new old ≡ old
-too_long new old h = ap (λ (b : Bool). cond b (onto new old) old) (lt-leb _ _ h)
-
--- the first i numbers written, then one more
-pub one_more : (new old : List ℕ) (i : ℕ) → i < length new → i < length old
-    → set (take i new ++ drop i old) i (get_or new i 0) ≡ take (i + 1) new ++ drop (i + 1) old
-one_more new old i n o =
-    let rest = drop (suc i) old in
-    ap (λ (r : List ℕ). set (take i new ++ r) i (get_or new i 0)) (drop-cons old i 0 o)
-    ∙ set_at (take i new) (get_or old i 0) rest (get_or new i 0) i (length-take-le i new (omega arith))
-    ∙ sym (append_snoc (take i new) (get_or new i 0) rest)
-    ∙ ap (λ (r : List ℕ). r ++ rest) (sym (take-suc new i 0 n))
-    ∙ ap (λ (k : ℕ). take k new ++ drop k old) (sym (add-one i))
-
--- and all of them
-pub all_written : (new old : List ℕ) (i : ℕ) → i ≡ length new → take i new ++ drop i old ≡ onto new old
-all_written new old i e =
-    ap (λ (r : List ℕ). r ++ drop i old) (take_all i new (omega (arith, e))) ∙ ap (λ (k : ℕ). new ++ drop k old) e
-
-pub nothing_written : (old : List ℕ) → onto_if_room [] old ≡ old
-nothing_written old = fitting [] old (omega arith)
 
 -- into the part of a list from a place on, which is handed back behind what stands before it
 pub into_part : (new old part : List ℕ) (to : ℕ) → to ≤ length old → part ≡ onto_if_room new (take (length old - to) (drop to old))

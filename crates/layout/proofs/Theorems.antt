@@ -1,22 +1,21 @@
 -- The theorems of specs/Theorems.antt: an answer, and what is left, is read back from its numbers. Assumes nothing.
 use mathlib.Core.Path.{◌≡◌, refl, sym, ap, ◌∙◌}
 use mathlib.Core.Bool.{Bool, true, false, cond}
-use mathlib.Core.List.{List, [], ◌∷◌}
-use Prim.Native.Nat.{ℕ, zero, suc, ◌+◌}
-use native.Mathlib.Omega.{arith}
+use mathlib.Core.List.{List}
+use Prim.Native.Nat.{ℕ}
 use borrow.Author.Tests.{eq-eqb, ne_eqb}
 use lib.Dec.{eqb}
-use lib.ListN.{length, get_or, take, drop, replicate, drop_of_length-le}
-use lib.Seq.{drop-cons}
+use lib.ListN.{length, get_or, take, drop, replicate}
 use Rattle.effects.specs.declared.Stop.{Stop}
 use Rattle.effects.specs.declared.Stop.TheVariants.{Going, Halted, Undefined}
 use Rattle.r8_core.specs.Cores.{Visible, visible}
 use Rattle.r8_core.specs.Calls.{Answer, done, stored, ran, viewed, refused, refused_at}
 use Rattle.text.proofs.Apart.{end_from, end_back}
-use Rattle.layout.specs.Layout.{flags_of, stop_number, bank_numbers, seen_numbers, answer_numbers, left_numbers}
+use Rattle.layout.specs.Layout.{flags_of, stop_number, seen_numbers, answer_numbers, left_numbers}
 use Rattle.layout.specs.Theorems.{AnswerSize, Whole, AnswersApart, LeftApart, Places}
 use Rattle.layout.proofs.Sizes.{numbers_size, left_size}
 use Rattle.layout.proofs.Back.{flags_back}
+use Rattle.layout.proofs.Bank.{bank_back}
 
 pub answer_size_lem : AnswerSize
 answer_size_lem = (numbers_size, left_size)
@@ -29,19 +28,6 @@ stop_back : (s : Stop) → stop_of (stop_number s) ≡ s
 stop_back Going = refl
 stop_back Halted = refl
 stop_back Undefined = refl
-
--- a list of sixteen, by its elements
-abbrev from : List ℕ → ℕ → ℕ → List ℕ
-from l i zero = []
-from l i (suc n) = get_or l i 0 ∷ from l (suc i) n
-
-from_drop : (l : List ℕ) (i n : ℕ) → length l ≡ i + n → from l i n ≡ drop i l
-from_drop l i zero e = sym (drop_of_length-le l {i = i} (omega arith))
-from_drop l i (suc n) e =
-    ap (λ (r : List ℕ). get_or l i 0 ∷ r) (from_drop l (suc i) n (omega arith)) ∙ sym (drop-cons l i 0 (omega arith))
-
-bank_back : (regs : List ℕ) → length regs ≡ 16 → bank_numbers regs ≡ regs
-bank_back regs e = from_drop regs 0 16 e
 
 -- what is seen, of its numbers
 abbrev seen_of : List ℕ → Visible

@@ -6,7 +6,7 @@ use Prim.Native.Nat.{ℕ, suc, ◌+◌, ◌-◌, ◌≤◌, ◌<◌}
 use native.Mathlib.Numerals.{add-one}
 use native.Mathlib.Omega.{arith}
 use lib.Dec.{eqb}
-use lib.ListN.{length, take, drop, length-drop}
+use lib.ListN.{length, take, drop, length-drop, drop_of_length-le}
 use lib.Seq.{drop-drop}
 use Rattle.lines.specs.Lines.{line_feed, prepend, lines, find, first_line}
 use Rattle.lines.proofs.Places.{find_le, first_length}
@@ -36,3 +36,8 @@ front_at s at h =
 
 pub first_in : (s : List ℕ) (at : ℕ) → length (first_line (drop at s)) ≤ length s - at
 first_in s at = omega (arith, first_length (drop at s), find_le line_feed (drop at s), length-drop at s)
+
+-- past the last line nothing is left
+pub lines_past : (s : List ℕ) (at : ℕ) → length s ≤ at → lines (drop at s) ≡ []
+unfolding lines
+lines_past s at h = rw (drop_of_length-le s h)

@@ -3,3 +3,4 @@ pub mod Lines
 pub mod Answers
 pub mod Comment
 pub mod Theorems
+pub mod Walk

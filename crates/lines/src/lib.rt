@@ -2,13 +2,19 @@
 // spaces or none, then nothing or `;` and a comment; or it is spaces or none, and says nothing. An LF or the end of the listing ends it.
 #![tactic(auto)]
 
-ghost use Rattle.std.specs.Prelude.{◌≡◌, ◌+◌, ◌≤◌, min, length, drop};
+ghost use Rattle.std.specs.Prelude.{◌≡◌, ◌+◌, ◌<◌, min, length, drop, unwrap_or};
+ghost use Rattle.std.specs.Option.{SomeIff};
 ghost use Rattle.hexadecimal.specs.Digits.{digit_value};
-ghost use Rattle.lines.specs.Lines.{first_line, after_spaces, ends, four_digits, number_at, read_line};
+ghost use Rattle.lines.specs.Lines.{first_line, after_spaces, ends, four_digits, number_at, entry_of, read_line};
 ghost use Rattle.lines.specs.Answers.{line_says, said_by};
+ghost use Rattle.lines.specs.declared.Line.TheVariants.{IllFormed};
 ghost use Rattle.lines.specs.Comment.{comment_text, comment_start};
 
 mod search; // the place of a byte
+
+mod walk; // the lines of a listing
+
+pub use walk::Lines;
 
 const LINE_FEED: u8 = b'\n';
 
@@ -32,10 +38,12 @@ pub struct Read {
     pub length: usize,
 }
 
-// The value of a hexadecimal digit, in either case; 16 for a byte that is no digit.
+// The value of a hexadecimal digit, in either case. Three `if` that each set one variable are compiled without a jump between figures and letters,
+// which a `match` over the ranges, or `to_digit`, would make.
+#[inline(always)]
 #[tactic(auto, unfolding(hexadecimal::specs::Digits::digit_value))]
-fn digit(b: u8) -> u8
-    ensures { result ≡ digit_value b }
+fn digit(b: u8) -> Option<u16>
+    ensures { SomeIff result (digit_value b < 16) (digit_value b) }
 {
     let mut value = 16;
     if b'0' <= b && b <= b'9' {
@@ -47,30 +55,29 @@ fn digit(b: u8) -> u8
     if b'a' <= b && b <= b'f' {
         value = b - b'a' + 10;
     }
-    value
+    (value < 16).then_some(value as u16)
 }
 
-// The number that four digits write, given their values, the first the highest; 65,536, which is above every word, where one of the values
-// is no digit's.
+// The number that four digits write, the first the highest.
+#[inline(always)]
 #[tactic(auto, unfolding(crate::specs::Lines::four_digits))]
-fn number(a: u8, b: u8, c: u8, d: u8) -> u32
-    ensures { result ≡ four_digits a b c d }
+fn number(a: u8, b: u8, c: u8, d: u8) -> Option<u16>
+    ensures { unwrap_or result 65536 ≡ four_digits (digit_value a) (digit_value b) (digit_value c) (digit_value d) }
 {
-    if 16 <= a || 16 <= b || 16 <= c || 16 <= d {
-        return 65536;
-    }
-    a as u32 * 4096 + b as u32 * 256 + c as u32 * 16 + d as u32
+    let (a, b, c, d) = (digit(a), digit(b), digit(c), digit(d));
+    Some(a? * 4096 + b? * 256 + c? * 16 + d?)
 }
 
 // What follows the spaces at the front.
+#[tactic(auto, unfolding(crate::specs::Lines::after_spaces))]
 fn after_spaces(s: &[u8]) -> &[u8]
     ensures { result.now ≡ after_spaces s.now }
 {
-    let mut i = 0;
-    while i < s.len() && s[i] == SPACE {
-        i += 1;
+    let mut rest = s;
+    while let [SPACE, tail @ ..] = rest {
+        rest = tail;
     }
-    &s[i..]
+    rest
 }
 
 // Whether a line may end so: spaces or none, then nothing or `;` and a comment.
@@ -78,57 +85,35 @@ fn after_spaces(s: &[u8]) -> &[u8]
 pub fn line_ends(s: &[u8]) -> bool
     ensures { result ≡ ends s.now }
 {
-    let t = after_spaces(s);
-    t.len() == 0 || t[0] == SEMICOLON
+    matches!(after_spaces(s), [] | [SEMICOLON, ..])
 }
 
-// The address of a line, at its places 0 to 3.
-#[tactic(auto, unfolding(crate::specs::Lines::number_at))]
-fn address_of(text: &[u8]) -> u32
-    requires { 4 ≤ length text.now }
-    ensures { result ≡ number_at text.now 0 }
+// An entry: the digits of an address, a space, the digits of a word, and a line's end.
+#[tactic(auto, using(crate::proofs::Places::to_end, crate::proofs::Places::too_short, crate::proofs::Entries::an_entry, crate::proofs::Entries::no_entry), unfolding(crate::specs::Lines::entry_of, crate::specs::Lines::number_at))]
+fn entry_of(text: &[u8]) -> Option<Line>
+    ensures { unwrap_or result IllFormed ≡ entry_of text.now }
 {
-    number(
-        digit(text[0]),
-        digit(text[1]),
-        digit(text[2]),
-        digit(text[3]),
-    )
-}
-
-// The word of a line, at its places 5 to 8.
-#[tactic(auto, unfolding(crate::specs::Lines::number_at))]
-fn word_of(text: &[u8]) -> u32
-    requires { 9 ≤ length text.now }
-    ensures { result ≡ number_at text.now 5 }
-{
-    number(
-        digit(text[5]),
-        digit(text[6]),
-        digit(text[7]),
-        digit(text[8]),
-    )
+    let [a, b, c, d, SPACE, e, f, g, h, end @ ..] = text else {
+        return None;
+    };
+    let address = number(*a, *b, *c, *d)?;
+    let word = number(*e, *f, *g, *h)?;
+    if line_ends(end) {
+        Some(Line::Entry { address, word })
+    } else {
+        None
+    }
 }
 
 // What a line says, given without its LF.
+#[tactic(auto, using(crate::proofs::Places::empty, crate::proofs::Places::not_empty), unfolding(crate::specs::Lines::read_line))]
 fn line_of(text: &[u8]) -> Line
     ensures { result ≡ read_line text.now }
 {
-    if after_spaces(text).len() == 0 {
+    if after_spaces(text).is_empty() {
         return Line::Blank;
     }
-    if text.len() < 9 {
-        return Line::IllFormed;
-    }
-    let address = address_of(text);
-    let word = word_of(text);
-    if 65536 <= address || text[4] != SPACE || 65536 <= word || !line_ends(&text[9..]) {
-        return Line::IllFormed;
-    }
-    Line::Entry {
-        address: address as u16,
-        word: word as u16,
-    }
+    entry_of(text).unwrap_or(Line::IllFormed)
 }
 
 // How many bytes the line at the front has, the LF not counted.
@@ -160,15 +145,15 @@ pub fn read_line(rest: &[u8]) -> Read
     }
 }
 
-// The number that the first four bytes write in hexadecimal; 65,536 where they are not four digits, or there are fewer.
-#[tactic(auto, using(crate::proofs::Places::no_four))]
-pub fn front_number(text: &[u8]) -> u32
-    ensures { result ≡ number_at text.now 0 }
+// The number that the first four bytes write in hexadecimal, where there are four and each is a digit.
+#[tactic(auto, using(crate::proofs::Places::no_four), unfolding(crate::specs::Lines::number_at))]
+pub fn front_number(text: &[u8]) -> Option<u16>
+    ensures { unwrap_or result 65536 ≡ number_at text.now 0 }
 {
-    if 4 <= text.len() {
-        return address_of(text);
-    }
-    65536
+    let [a, b, c, d, ..] = text else {
+        return None;
+    };
+    number(*a, *b, *c, *d)
 }
 
 // What follows from a place on; an empty part where that is past the end.

@@ -2,13 +2,13 @@
 use mathlib.Core.Path.{◌≡◌, refl, sym, ap, ◌∙◌}
 use mathlib.Core.Bool.{cond}
 use Prim.Native.Nat.{ℕ}
+use Rattle.std.specs.Prelude.{Result, Ok, Err}
 use lib.Dec.{eqb}
 use Rattle.listing.specs.Answers.{fault_number, store_answer}
 use Rattle.listing.specs.Theorems.{FaultsApart}
 use Rattle.listing.specs.declared.Fault.{Fault}
 use Rattle.listing.specs.declared.Fault.TheVariants.{IllFormed, NotAbove, PastEnd}
-use Rattle.listing.specs.declared.StoreAnswer.{StoreAnswer}
-use Rattle.listing.specs.declared.StoreAnswer.TheVariants.{Stored, Refused}
+use Rattle.listing.specs.declared.FaultAt.{FaultAt}
 
 -- the fault of a number
 abbrev fault_from : ℕ → Fault
@@ -23,11 +23,15 @@ fault_back PastEnd = refl
 fault_apart : (x y : Fault) → fault_number x ≡ fault_number y → x ≡ y
 fault_apart x y e = sym (fault_back x) ∙ ap fault_from e ∙ fault_back y
 
-store_apart : (x y : StoreAnswer) → store_answer x ≡ store_answer y → x ≡ y
-store_apart (Stored n) (Stored m) e = cc
-store_apart (Stored n) (Refused g m) e = cc
-store_apart (Refused f n) (Stored m) e = cc
-store_apart (Refused f n) (Refused g m) e = let fault = fault_apart f g cc in cc
+at_apart : (x y : FaultAt) → fault_number x.fault ≡ fault_number y.fault → x.offset ≡ y.offset → x ≡ y
+at_apart x y e o = rw (fault_apart x.fault y.fault e, o) refl
+
+store_apart : (x y : Result ℕ FaultAt) → store_answer x ≡ store_answer y → x ≡ y
+store_apart (Ok n) (Ok m) e = cc
+store_apart (Ok n) (Err y) e = cc
+store_apart (Err x) (Ok m) e = cc
+store_apart (Err x) (Err y) e =
+    let f : fault_number x.fault ≡ fault_number y.fault = cc in let o : x.offset ≡ y.offset = cc in ap Err (at_apart x y f o)
 
 pub faults_apart : FaultsApart
 faults_apart = (fault_apart, store_apart)

@@ -1,6 +1,6 @@
 -- What holds of every listing and memory, and that different answers are read differently: ten statements, proved in proofs/Theorems.antt,
 -- proofs/Numbers.antt and proofs/Apart.antt.
-use Rattle.std.specs.Prelude.{◌≡◌, ◌↔◌, ◌⊎◌, List, [], ◌∷◌, ℕ, ◌≤◌, ◌<◌, length, take}
+use Rattle.std.specs.Prelude.{◌≡◌, ◌↔◌, ◌⊎◌, List, [], ◌∷◌, ℕ, ◌≤◌, ◌<◌, length, take, Result}
 use Rattle.words.specs.Memory.{word_at}
 use Rattle.lines.specs.Lines.{lines, read_line}
 use Rattle.lines.specs.Theorems.{line_at, start_at}
@@ -8,7 +8,7 @@ use Rattle.lines.specs.declared.Line.TheVariants.{Entry, IllFormed}
 use Rattle.listing.specs.Answers.{stored, refused, fault_number, store_answer}
 use Rattle.listing.specs.Listing.{lowest_after, fault_of, words_in, listing_answer, listing_memory}
 use Rattle.listing.specs.declared.Fault.{Fault}
-use Rattle.listing.specs.declared.StoreAnswer.{StoreAnswer}
+use Rattle.listing.specs.declared.FaultAt.{FaultAt}
 
 -- the lowest address that the line after some lines may say
 unfoldable pub lowest_of : List (List ℕ) → ℕ → ℕ
@@ -102,4 +102,4 @@ StoredTwice =
 abbrev pub FaultsApart : Type 0
 FaultsApart =
     ((x y : Fault) → fault_number x ≡ fault_number y → x ≡ y)
-    × ((x y : StoreAnswer) → store_answer x ≡ store_answer y → x ≡ y)
+    × ((x y : Result ℕ FaultAt) → store_answer x ≡ store_answer y → x ≡ y)

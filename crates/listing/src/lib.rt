@@ -5,141 +5,87 @@ ghost use Rattle.std.specs.Prelude.{◌≡◌, length};
 ghost use Rattle.lines.specs.Lines.{lines};
 ghost use Rattle.listing.specs.Answers.{fault_number, store_answer};
 ghost use Rattle.listing.specs.Verdicts.{verdict_number};
-ghost use Rattle.listing.specs.Listing.{lowest_after, address_fault, fault_of, words_of, store_line, store_lines, listing_answer, listing_memory};
+ghost use Rattle.listing.specs.Listing.{fault_of, store_lines, listing_answer, listing_memory};
 
-use lines::Line;
+use lines::{Line, Lines};
 
 // What is wrong with a line.
-#[derive(Clone, Copy)]
+#[derive(Clone, Copy, PartialEq, Eq)]
 pub enum Fault {
     IllFormed,
     NotAbove,
     PastEnd,
 }
 
-#[derive(Clone, Copy)]
-enum Verdict {
-    Passed,
-    Failed(Fault),
-}
-
-// How many words were stored; or the first fault and the offset of its line's start.
-#[derive(Clone, Copy)]
-pub enum StoreAnswer {
-    Stored(usize),
-    Refused(Fault, usize),
-}
-
 // The numbers of document 01.
-pub fn fault_number(fault: Fault) -> u8
-    ensures { result ≡ fault_number fault }
-{
-    match fault {
-        Fault::IllFormed => 2,
-        Fault::NotAbove => 3,
-        Fault::PastEnd => 4,
+impl From<Fault> for u8 {
+    ghost from_gives = { λ fault n. n ≡ fault_number fault };
+
+    fn from(fault: Fault) -> u8 {
+        match fault {
+            Fault::IllFormed => 2,
+            Fault::NotAbove => 3,
+            Fault::PastEnd => 4,
+        }
     }
 }
 
-fn judge_address(limit: usize, lowest: u32, address: u16) -> Verdict
-    ensures { verdict_number result ≡ address_fault limit lowest address }
-{
-    if limit <= address as usize {
-        return Verdict::Failed(Fault::PastEnd);
-    }
-    if (address as u32) < lowest {
-        return Verdict::Failed(Fault::NotAbove);
-    }
-    Verdict::Passed
+// The first fault of a listing, and the offset of its line's start.
+#[derive(Clone, Copy)]
+pub struct FaultAt {
+    pub fault: Fault,
+    pub offset: usize,
 }
 
-fn judge(limit: usize, lowest: u32, line: Line) -> Verdict
+fn judge(limit: usize, lowest: u32, line: Line) -> Result<(), Fault>
     ensures { verdict_number result ≡ fault_of limit lowest line }
 {
     match line {
-        Line::Blank => Verdict::Passed,
-        Line::Entry { address, word: _ } => judge_address(limit, lowest, address),
-        Line::IllFormed => Verdict::Failed(Fault::IllFormed),
+        Line::Blank => Ok(()),
+        Line::Entry { address, .. } if limit <= address as usize => Err(Fault::PastEnd),
+        Line::Entry { address, .. } if (address as u32) < lowest => Err(Fault::NotAbove),
+        Line::Entry { .. } => Ok(()),
+        Line::IllFormed => Err(Fault::IllFormed),
     }
 }
 
-fn lowest_after(line: Line, lowest: u32) -> u32
-    ensures { result ≡ lowest_after line lowest }
-{
-    match line {
-        Line::Blank => lowest,
-        Line::Entry { address, word: _ } => address as u32 + 1,
-        Line::IllFormed => lowest,
-    }
-}
-
-fn words_of(line: Line) -> usize
-    ensures { result ≡ words_of line }
-{
-    match line {
-        Line::Blank => 0,
-        Line::Entry {
-            address: _,
-            word: _,
-        } => 1,
-        Line::IllFormed => 0,
-    }
-}
-
-// What a store of the listing answers, with nothing stored yet.
-fn check(listing: &[u8], limit: usize) -> StoreAnswer
+// What a store of the listing answers, with nothing stored yet. An address has to be at or above the lowest: one past the last that was read.
+#[tactic(auto, using(crate::proofs::Turns::same_faults, crate::proofs::Turns::same_counts, crate::proofs::Turns::counts_le, crate::proofs::Turns::numbered), unfolding(crate::proofs::Turns::faults, crate::proofs::Turns::counts, crate::specs::Listing::listing_answer, crate::specs::Listing::check_of))]
+fn check(listing: &[u8], limit: usize) -> Result<usize, FaultAt>
     ensures { store_answer result ≡ listing_answer listing.now limit }
 {
-    let mut at = 0;
-    let mut lowest: u32 = 0;
+    let mut lowest = 0;
     let mut count = 0;
-    while at < listing.len() {
-        let read = lines::read_line(&listing[at..]);
-        let line = read.line;
-        let verdict = judge(limit, lowest, line);
-        if let Verdict::Failed(fault) = verdict {
-            return StoreAnswer::Refused(fault, at);
+    for (offset, line) in Lines::new(listing) {
+        judge(limit, lowest, line).map_err(|fault| FaultAt { fault, offset })?;
+        if let Line::Entry { address, .. } = line {
+            lowest = address as u32 + 1;
+            count += 1;
         }
-        lowest = lowest_after(line, lowest);
-        count += words_of(line);
-        at += read.length + 1;
     }
-    StoreAnswer::Stored(count)
-}
-
-fn store_line(line: Line, memory: &mut [u16])
-    ensures { memory.new ≡ store_line line memory.old }
-{
-    match line {
-        Line::Blank => {}
-        Line::Entry { address, word } => words::write(memory, address, word),
-        Line::IllFormed => {}
-    }
+    Ok(count)
 }
 
 // The lines are stored with no further look at what is wrong with one: an ill-formed line says nothing, and is passed over.
+#[tactic(auto, using(crate::proofs::Turns::same_stores), unfolding(crate::proofs::Turns::stores))]
 fn store_lines(listing: &[u8], memory: &mut [u16])
     ensures { memory.new ≡ store_lines (lines listing.now) memory.old }
 {
-    let mut at = 0;
-    while at < listing.len() {
-        let read = lines::read_line(&listing[at..]);
-        let line = read.line;
-        store_line(line, memory);
-        at += read.length + 1;
+    for (_, line) in Lines::new(listing) {
+        if let Line::Entry { address, word } = line {
+            words::write(memory, address, word);
+        }
     }
 }
 
-// The checked store: a listing with a fault changes nothing. Every length of memory is taken as it is, 0 and above 65,536 too,
-// which number 1 is for.
-pub fn store(listing: &[u8], memory: &mut [u16]) -> StoreAnswer
+// The checked store, which answers how many words were stored: a listing with a fault changes nothing. Every length of memory is taken as it is,
+// 0 and above 65,536 too, which number 1 is for.
+#[tactic(auto, using(crate::proofs::Decided::accepted, crate::proofs::Decided::refuses))]
+pub fn store(listing: &[u8], memory: &mut [u16]) -> Result<usize, FaultAt>
     ensures answer { store_answer result ≡ listing_answer listing.now (length memory.old) }
     ensures memory { memory.new ≡ listing_memory listing.now memory.old }
 {
-    let answer = check(listing, memory.len());
-    match answer {
-        StoreAnswer::Stored(_) => store_lines(listing, memory),
-        StoreAnswer::Refused(_, _) => {}
-    }
-    answer
+    let count = check(listing, memory.len())?;
+    store_lines(listing, memory);
+    Ok(count)
 }

@@ -4,9 +4,7 @@ use Rattle.std.specs.Prelude.{◌≡◌, List, ℕ}
 use Rattle.std.specs.Borrow.{Bor, MutBor}
 use Rattle.r8_core.specs.Cores.{fresh_core}
 use Rattle.r8_core.specs.declared.Core.{Core}
-use Rattle.r8_core.specs.declared.LoadReply.{LoadReply}
-use Rattle.r8_core.specs.declared.RunReply.{RunReply}
-use Rattle.r8_core.specs.declared.ViewReply.{ViewReply}
+use Rattle.r8_core.specs.Answers.{LoadReply, RunReply, ViewReply}
 use Rattle.r8_core.proofs.fresh.Reads as contract-of-fresh
 use Rattle.r8_core.proofs.Core.reset.Reads as contract-of-reset
 use Rattle.r8_core.proofs.Core.load.Reads as contract-of-load

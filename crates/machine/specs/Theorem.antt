@@ -7,12 +7,9 @@ use Rattle.r8_core.specs.Spent.{spent_of, due_in_range}
 use Rattle.r8_core.specs.Progress.{Progress, starting, cycles_on}
 use Rattle.r8_core.specs.Calls as core
 use Rattle.r8_core.specs.Calls.{Answer, done, stored, ran, viewed, refused, refused_at, Reply}
-use Rattle.r8_core.specs.Answers.{load_answer_of, run_answer_of, view_answer_of, reset_gave, load_gave, run_gave, view_gave}
+use Rattle.r8_core.specs.Answers.{LoadReply, RunReply, ViewReply, load_answer_of, run_answer_of, view_answer_of, reset_gave, load_gave, run_gave, view_gave}
 use Rattle.r8_core.specs.declared.Core.{Core}
 use Rattle.r8_core.specs.declared.End.{End}
-use Rattle.r8_core.specs.declared.LoadReply.{LoadReply}
-use Rattle.r8_core.specs.declared.RunReply.{RunReply}
-use Rattle.r8_core.specs.declared.ViewReply.{ViewReply}
 use Rattle.plays.specs.Plays.{play, Each, counted}
 use Rattle.machine.specs.Machine as machine
 use Rattle.machine.specs.Machine.{Machine, fresh_machine, cycles_of}
@@ -126,7 +123,7 @@ handed_back reset c M = (done, state c M)
 handed_back (load text) r M = (load_answer_of r.0.answer, state r.0.core r.1)
 handed_back (run b) r M = (run_answer_of r.0.answer, state r.0.core r.1)
 handed_back step r M = (run_answer_of r.0.answer, state r.0.core r.1)
-handed_back view r M = (view_answer_of r.answer r.snapshot, state r.core M)
+handed_back view r M = (view_answer_of r.answer, state r.core M)
 
 abbrev pub as_made : Made → State → Answer × State
 as_made m s = handed_back m.call m.given s.memory

@@ -24,10 +24,9 @@ pub put_both : (page : Page) (some others : List ℕ) {mid after : Page} → mid
 put_both page some others first second = second ∙ ap (λ (p : Page). put_on p others) first ∙ sym (both some others page)
 
 -- one byte more
-pub put_one : (page : Page) (bytes : List ℕ) (i : ℕ) {mid after : Page} → mid ≡ put_on page (take i bytes) → i < length bytes
-    → after ≡ put_byte mid (get_or bytes i 0) → after ≡ put_on page (take (i + 1) bytes)
-unfolding put_on
-put_one page bytes i before more put = rw (add-one i, take-suc bytes i 0) (put_both page (take i bytes) (get_or bytes i 0 ∷ []) before put)
+pub put_one : (page : Page) (bytes : List ℕ) (i : ℕ) {byte : ℕ} {mid after : Page} → mid ≡ put_on page (take i bytes) → i < length bytes
+    → byte ≡ get_or bytes i 0 → after ≡ put_on mid (byte ∷ []) → after ≡ put_on page (take (i + 1) bytes)
+put_one page bytes i before more here put = rw (add-one i, take-suc bytes i 0, ← here) (put_both page (take i bytes) (_ ∷ []) before put)
 
 pub put_whole : PutWhole
 unfolding put_on

@@ -1,57 +1,78 @@
-// A lent page that is filled with text. A place is where the next byte goes; a byte that would go past the page's end is lost.
+// A lent page that is filled with text. A byte that would go past the page's end is lost.
 #![tactic(auto)]
 
-ghost use Rattle.std.specs.Prelude.{◌≡◌, ◌++◌};
+ghost use Rattle.std.specs.Prelude.{◌≡◌, ◌++◌, [], ◌∷◌};
 ghost use Rattle.hexadecimal.specs.Digits.{word_text};
 ghost use Rattle.text.specs.Decimal.{decimal_text};
-ghost use Rattle.output.specs.Page.{page_at, put_byte, put_on, totals_text};
+ghost use Rattle.output.specs.Page.{totals_text};
+ghost use Rattle.output.specs.Puts.{Puts};
 
-fn put_byte(page: &mut [u8], at: usize, byte: u8) -> usize
-    ensures { page_at page.new result ≡ put_byte (page_at page.old at) byte }
-{
-    if at < page.len() {
-        page[at] = byte;
-        return at + 1;
+// A page's bytes, and the place where the next one goes.
+#[derive(Drop)]
+pub struct Page<'a> {
+    bytes: &'a mut [u8],
+    at: usize,
+}
+
+impl<'a> Page<'a> {
+    pub fn new(bytes: &'a mut [u8]) -> Page<'a>
+        ensures same_reference { result.bytes.ghost_name ≡ bytes.entry.ghost_name }
+        ensures bytes { result.bytes.now ≡ bytes.old }
+        ensures at { result.at ≡ 0 }
+    {
+        Page { bytes, at: 0 }
     }
-    at
-}
 
-// Puts bytes on a page from a place on, and answers the place after them.
-pub fn put(page: &mut [u8], from: usize, bytes: &[u8]) -> usize
-    ensures { page_at page.new result ≡ put_on (page_at page.old from) bytes.now }
-{
-    let mut at = from;
-    for i in 0..bytes.len() {
-        at = put_byte(page, at, bytes[i]);
+    // How many bytes are put on it.
+    pub fn count(&self) -> usize
+        ensures { result ≡ self.now.at }
+    {
+        self.at
     }
-    at
-}
 
-// Text, then a number in base ten.
-pub fn put_number(page: &mut [u8], from: usize, name: &[u8], n: u64) -> usize
-    ensures { page_at page.new result ≡ put_on (page_at page.old from) (name.now ++ decimal_text n) }
-{
-    let at = put(page, from, name);
-    let figure = text::decimal(n);
-    let digits = figure.digits;
-    let start = figure.start;
-    put(page, at, &digits[start..])
-}
+    #[tactic(auto, unfolding(crate::specs::Page::put_on))]
+    fn put_byte(&mut self, byte: u8)
+        ensures { Puts self.old self.new (byte ∷ []) }
+    {
+        if self.at < self.bytes.len() {
+            self.bytes[self.at] = byte;
+            self.at += 1;
+        }
+    }
 
-// Text, then a word in hexadecimal.
-#[tactic(auto, using(crate::proofs::Stores::put_both))]
-pub fn put_word(page: &mut [u8], from: usize, name: &[u8], word: u16) -> usize
-    ensures { page_at page.new result ≡ put_on (page_at page.old from) (name.now ++ word_text word) }
-{
-    let at = put(page, from, name);
-    put(page, at, &hexadecimal::word_text(word))
-}
+    pub fn put(&mut self, bytes: &[u8])
+        ensures { Puts self.old self.new bytes.now }
+    {
+        for &byte in bytes {
+            self.put_byte(byte);
+        }
+    }
 
-// The totals of a run: its cycles, its instructions and its end letter.
-pub fn put_totals(page: &mut [u8], from: usize, cycles: u64, instructions: u64, letter: u8) -> usize
-    ensures { page_at page.new result ≡ put_on (page_at page.old from) (totals_text cycles instructions letter) }
-{
-    let mut at = put_number(page, from, b"cycles ", cycles);
-    at = put_number(page, at, b" instructions ", instructions);
-    put(page, at, &[b' ', b'e', b'n', b'd', b' ', letter])
+    // Text, then a number in base ten.
+    #[tactic(auto, using(crate::proofs::Stores::put_both))]
+    pub fn put_number(&mut self, name: &[u8], n: u64)
+        ensures { Puts self.old self.new (name.now ++ decimal_text n) }
+    {
+        self.put(name);
+        self.put(text::decimal(n, &mut text::Buffer::new()));
+    }
+
+    // Text, then a word in hexadecimal.
+    #[tactic(auto, using(crate::proofs::Stores::put_both))]
+    pub fn put_word(&mut self, name: &[u8], word: u16)
+        ensures { Puts self.old self.new (name.now ++ word_text word) }
+    {
+        self.put(name);
+        self.put(&hexadecimal::word_text(word));
+    }
+
+    // The totals of a run: its cycles, its instructions and its end letter.
+    pub fn put_totals(&mut self, cycles: u64, instructions: u64, letter: u8)
+        ensures { Puts self.old self.new (totals_text cycles instructions letter) }
+    {
+        self.put_number(b"cycles ", cycles);
+        self.put_number(b" instructions ", instructions);
+        self.put(b" end ");
+        self.put(&[letter]);
+    }
 }

@@ -3,259 +3,187 @@
 // the totals of a run.
 #![tactic(auto)]
 
-ghost use Rattle.std.specs.Prelude.{◌≤◌, ◌<◌, length, take, IfOk};
-ghost use Rattle.std.specs.Io.KnownBytes.{Consumes, IsAtEnd};
-
+use Register::{Pc, R, Sp};
 use isa::Flags;
-use r8_core::{Core, LoadAnswer, RunAnswer, Snapshot, ViewAnswer};
-use std::io;
-use std::io::Read;
+use r8_core::{Core, ListingError, Ran, Snapshot};
+use std::{fmt, io};
 
-// What a comment of 003 says that a register holds after the instruction at an address: R0 to R15 by their numbers, 16 for SP, 17 for PC,
-// 18 for nothing.
-#[derive(Drop)]
-struct Claim(u8, u16);
+// What a comment of 003 names: R0 to R15, SP or PC.
+#[derive(Clone, Copy)]
+enum Register {
+    R(usize),
+    Sp,
+    Pc,
+}
 
-fn first_claims(address: u16) -> Claim {
-    match address {
-        0x0001 => Claim(1, 0x1008),
-        0x0003 => Claim(2, 0x1234),
-        0x0005 => Claim(3, 0xFEDC),
-        0x0006 => Claim(4, 0x223C),
-        0x0007 => Claim(5, 0xFDD4),
-        0x0008 => Claim(6, 0x1000),
-        0x0009 => Claim(7, 0x123C),
-        0x000A => Claim(8, 0x023C),
-        0x000B => Claim(1, 0x1009),
-        0x000C => Claim(1, 0x1018),
-        0x000D => Claim(1, 0x1117),
-        0x000E => Claim(2, 0x1233),
-        0x000F => Claim(2, 0x122F),
-        0x0010 => Claim(2, 0x1130),
-        0x0012 => Claim(13, 0x01FF),
-        0x0013 => Claim(16, 0x01FF),
-        0x0015 => Claim(1, 0x0100),
-        _ => later_claims(address),
+impl Register {
+    // What a core holds there. The number is below 16; the remainder only says so.
+    fn held(self, core: &Core) -> u16 {
+        match self {
+            R(i) => core.regs[i % 16],
+            Sp => core.sp,
+            Pc => core.pc,
+        }
     }
 }
 
-fn later_claims(address: u16) -> Claim {
-    match address {
-        0x0019 => Claim(0, 0xFFFF),
-        0x001D => Claim(7, 0x0030),
-        0x001E => Claim(17, 0x0030),
-        0x0032 => Claim(17, 0x0043),
-        0x0043 => Claim(17, 0x0094),
-        0x0106 => Claim(17, 0x0110),
-        0x0110 => Claim(1, 0x0000),
-        0x0111 => Claim(2, 0x0000),
-        0x0112 => Claim(3, 0x0000),
-        0x0113 => Claim(4, 0x0000),
-        0x0114 => Claim(17, 0x0128),
-        0x0129 => Claim(1, 0x0190),
-        0x012B => Claim(3, 0xBBAA),
-        0x0131 => Claim(2, 0xBAA3),
-        0x0135 => Claim(4, 0xCBAA),
-        0x0136 => Claim(1, 0xFFFF),
-        _ => Claim(18, 0),
+impl fmt::Display for Register {
+    fn fmt<W: fmt::Write>(&self, f: &mut fmt::Formatter<W>) -> fmt::Result {
+        match *self {
+            R(i) => write!(f, "R{i}"),
+            Sp => write!(f, "SP"),
+            Pc => write!(f, "PC"),
+        }
     }
 }
 
-fn print(rt: &impl Print, text: &[u8]) -> io::Result<()> {
-    rt.write_all(text)
-}
+// Flags, written NZCV.
+#[derive(Clone, Copy)]
+struct Nzcv(Flags);
 
-fn print_word(rt: &impl Print, before: &[u8], word: u16) -> io::Result<()> {
-    print(rt, before)?;
-    print(rt, &hexadecimal::word_text(word))
-}
-
-fn print_number(rt: &impl Print, before: &[u8], n: u64) -> io::Result<()> {
-    print(rt, before)?;
-    rt.print(n)
-}
-
-fn print_flags(rt: &impl Print, before: &[u8], flags: Flags) -> io::Result<()> {
-    print(rt, before)?;
-    print(rt, &text::flags_text(flags))
-}
-
-fn held(core: Core, register: u8) -> u16 {
-    let regs = core.regs;
-    let i = register as usize;
-    if i < 16 {
-        return regs[i];
+impl fmt::Display for Nzcv {
+    fn fmt<W: fmt::Write>(&self, f: &mut fmt::Formatter<W>) -> fmt::Result {
+        for bit in text::flags_text(self.0) {
+            f.write_char(char::from(bit))?;
+        }
+        Ok(())
     }
-    if i == 16 { core.sp } else { core.pc }
 }
 
-fn print_name(rt: &impl Print, register: u8) -> io::Result<()> {
-    if register < 16 {
-        print_number(rt, b" R", register as u64)
-    } else if register == 16 {
-        print(rt, b" SP")
+// What the comments of 003 say that registers hold after the instructions at some addresses.
+const CLAIMS: [(u16, Register, u16); 33] = [
+    (0x0001, R(1), 0x1008),
+    (0x0003, R(2), 0x1234),
+    (0x0005, R(3), 0xFEDC),
+    (0x0006, R(4), 0x223C),
+    (0x0007, R(5), 0xFDD4),
+    (0x0008, R(6), 0x1000),
+    (0x0009, R(7), 0x123C),
+    (0x000A, R(8), 0x023C),
+    (0x000B, R(1), 0x1009),
+    (0x000C, R(1), 0x1018),
+    (0x000D, R(1), 0x1117),
+    (0x000E, R(2), 0x1233),
+    (0x000F, R(2), 0x122F),
+    (0x0010, R(2), 0x1130),
+    (0x0012, R(13), 0x01FF),
+    (0x0013, Sp, 0x01FF),
+    (0x0015, R(1), 0x0100),
+    (0x0019, R(0), 0xFFFF),
+    (0x001D, R(7), 0x0030),
+    (0x001E, Pc, 0x0030),
+    (0x0032, Pc, 0x0043),
+    (0x0043, Pc, 0x0094),
+    (0x0106, Pc, 0x0110),
+    (0x0110, R(1), 0x0000),
+    (0x0111, R(2), 0x0000),
+    (0x0112, R(3), 0x0000),
+    (0x0113, R(4), 0x0000),
+    (0x0114, Pc, 0x0128),
+    (0x0129, R(1), 0x0190),
+    (0x012B, R(3), 0xBBAA),
+    (0x0131, R(2), 0xBAA3),
+    (0x0135, R(4), 0xCBAA),
+    (0x0136, R(1), 0xFFFF),
+];
+
+// What is claimed of the core after the instruction at an address, if anything, beside what is found.
+fn print_claim(rt: &impl Print, address: u16, core: &Core) -> io::Result<()> {
+    let Some(&(_, register, value)) = CLAIMS.iter().find(|(at, ..)| *at == address) else {
+        return Ok(());
+    };
+    let found = register.held(core);
+    print!(rt; "{address:04X} {register} {found:04X}")?;
+    if found == value {
+        println!(rt; ", as 003 says")
     } else {
-        print(rt, b" PC")
-    }
-}
-
-// A claim beside what is found.
-fn print_claim(rt: &impl Print, address: u16, claim: Claim, core: Core) -> io::Result<()> {
-    let found = held(core, claim.0);
-    print_word(rt, b"", address)?;
-    print_name(rt, claim.0)?;
-    print_word(rt, b" ", found)?;
-    if found == claim.1 {
-        print(rt, b", as 003 says\n")
-    } else {
-        print_word(rt, b", where 003 says ", claim.1)?;
-        print(rt, b"\n")
+        println!(rt; ", where 003 says {value:04X}")
     }
 }
 
 // What the comments of 003 say of flags, and what is right.
 fn print_remark(rt: &impl Print, address: u16, before: Flags, after: Flags) -> io::Result<()> {
-    if address == 0x0019 {
-        print_flags(rt, b"0019 NZCV ", after)?;
-        print_flags(rt, b", before it ", before)?;
-        print(rt, b": LDH sets no flag, where 003 says that it sets N\n")?;
+    let flags = Nzcv(after);
+    match address {
+        0x0019 => println!(rt;
+            "0019 NZCV {flags}, before it {}: LDH sets no flag, where 003 says that it sets N",
+            Nzcv(before)
+        ),
+        0x001A => println!(rt;
+            "001A NZCV {flags}: FFFF + FF gives C and not V, where 003 says that it sets V"
+        ),
+        0x001B if after.z => println!(rt; "001B NZCV {flags}: Z is set, as 003 says"),
+        0x001B => println!(rt; "001B NZCV {flags}: Z is clear, where 003 says that it is set"),
+        _ => Ok(()),
     }
-    if address == 0x001A {
-        print_flags(rt, b"001A NZCV ", after)?;
-        print(
-            rt,
-            b": FFFF + FF gives C and not V, where 003 says that it sets V\n",
-        )?;
-    }
-    if address == 0x001B {
-        print_flags(rt, b"001B NZCV ", after)?;
-        if after.z {
-            print(rt, b": Z is set, as 003 says\n")?;
-        } else {
-            print(rt, b": Z is clear, where 003 says that it is set\n")?;
-        }
-    }
-    Ok(())
-}
-
-fn print_step(rt: &impl Print, address: u16, before: Core, after: Core) -> io::Result<()> {
-    let claim = first_claims(address);
-    if claim.0 < 18 {
-        print_claim(rt, address, claim, after)?;
-    }
-    let old = before.flags;
-    let new = after.flags;
-    print_remark(rt, address, old, new)
 }
 
 fn print_steps(rt: &impl Print, mut core: Core, count: u32, memory: &mut [u16]) -> io::Result<()> {
-    let mut left = count;
-    while left > 0 {
+    for _ in 0..count {
         let next = core.step(memory).core;
-        print_step(rt, core.pc, core, next)?;
+        print_claim(rt, core.pc, &next)?;
+        print_remark(rt, core.pc, core.flags, next.flags)?;
         core = next;
-        left -= 1;
     }
     Ok(())
 }
 
 // Four registers to a line.
-fn print_gap(rt: &impl Print, i: usize) -> io::Result<()> {
-    if i % 4 == 3 {
-        print(rt, b"\n")
-    } else {
-        print(rt, b" ")
-    }
-}
-
-fn print_registers(rt: &impl Print, regs: [u16; 16]) -> io::Result<()> {
-    let mut i = 0;
-    while i < 16 {
-        print_number(rt, b"R", i as u64)?;
-        print_word(rt, b" ", regs[i])?;
-        print_gap(rt, i)?;
-        i += 1;
+fn print_registers(rt: &impl Print, regs: &[u16; 16]) -> io::Result<()> {
+    for (i, value) in regs.iter().enumerate() {
+        let gap = if i % 4 == 3 { '\n' } else { ' ' };
+        print!(rt; "R{i} {value:04X}{gap}")?;
     }
     Ok(())
 }
 
-fn print_snapshot(rt: &impl Print, shown: Snapshot) -> io::Result<()> {
-    let regs = shown.regs;
-    let flags = shown.flags;
-    print_registers(rt, regs)?;
-    print_word(rt, b"PC ", shown.pc)?;
-    print_word(rt, b" SP ", shown.sp)?;
-    print_flags(rt, b" NZCV ", flags)?;
-    print_number(rt, b" clock ", shown.clock.0 as u64)?;
-    print(rt, b"\n")
-}
-
-fn print_view(rt: &impl Print, core: Core) -> io::Result<()> {
-    let reply = core.view();
-    let answer = reply.answer;
-    let shown = reply.snapshot;
-    match answer {
-        ViewAnswer::Viewed => print_snapshot(rt, shown),
-        ViewAnswer::Refused(_) => print(rt, b"view refused\n"),
-    }
+fn print_snapshot(rt: &impl Print, shown: &Snapshot) -> io::Result<()> {
+    print_registers(rt, &shown.regs)?;
+    println!(rt;
+        "PC {:04X} SP {:04X} NZCV {} clock {}",
+        shown.pc,
+        shown.sp,
+        Nzcv(shown.flags),
+        shown.clock.0
+    )
 }
 
 fn print_run(rt: &impl Print, core: Core, memory: &mut [u16], again: &mut [u16]) -> io::Result<()> {
     let reply = core.run(1000, memory);
-    let answer = reply.answer;
-    match answer {
-        RunAnswer::Ran {
+    let Ok(
+        Ran {
             cycles,
             instructions,
             end,
-        } => {
-            print_steps(rt, core, instructions.0, again)?;
-            print_view(rt, reply.core)?;
-            print_number(rt, b"cycles ", cycles.0 as u64)?;
-            print_number(rt, b" instructions ", instructions.0 as u64)?;
-            print(
-                rt,
-                &[b' ', b'e', b'n', b'd', b' ', text::letter(end), b'\n'],
-            )
-        }
-        RunAnswer::Refused(_) => print(rt, b"run refused\n"),
+        },
+    ) = reply.answer
+    else {
+        return println!(rt; "run refused");
+    };
+    print_steps(rt, core, instructions.0, again)?;
+    match reply.core.view().answer {
+        Ok(shown) => print_snapshot(rt, &shown)?,
+        Err(_) => println!(rt; "view refused")?,
     }
-}
-
-// Fills a buffer from a reader, and answers how many bytes came before it was full or the reader ended.
-fn read_full<R: Read>(reader: &mut R, buffer: &mut [u8]) -> io::Result<usize>
-    ensures within { IfOk result (λ n. n ≤ length buffer.new) }
-    ensures bytes { IfOk result (λ n. Consumes (R.remaining reader.old) (R.remaining reader.new) (take n buffer.new)) }
-    ensures end { IfOk result (λ n. n < length buffer.new → IsAtEnd (R.remaining reader.new)) }
-{
-    let mut count = 0;
-    while count < buffer.len() {
-        let more = reader.read(&mut buffer[count..])?;
-        if more == 0 {
-            return Ok(count);
-        }
-        count += more;
-    }
-    Ok(count)
+    let letter = char::from(text::letter(end));
+    println!(rt;
+        "cycles {} instructions {} end {letter}",
+        cycles.0, instructions.0
+    )
 }
 
 fn main(rt: HostRuntime) -> io::Result<()> {
-    let mut input = [0u8; 4096];
-    let length = read_full(&mut rt.stdin(), &mut input)?;
+    let mut listing = [0u8; 4096];
+    let length = input::read_full(&mut rt.stdin(), &mut listing)?;
     let mut memory = [0u16; 16384];
-    let loaded = r8_core::fresh().load(&input[..length], &mut memory);
-    let answer = loaded.answer;
-    match answer {
-        LoadAnswer::Stored(count) => {
-            print_number(&rt, b"words stored ", count as u64)?;
-            print(&rt, b"\n")?;
+    let loaded = r8_core::fresh().load(&listing[..length], &mut memory);
+    match loaded.answer {
+        Ok(count) => {
+            println!(rt; "words stored {count}")?;
             let mut again = memory;
             print_run(&rt, loaded.core, &mut memory, &mut again)
         }
-        LoadAnswer::Faulty(_, offset) => {
-            print_number(&rt, b"load refused at ", offset as u64)?;
-            print(&rt, b"\n")
-        }
-        LoadAnswer::Refused(_) => print(&rt, b"load refused\n"),
+        Err(ListingError::Faulty(at)) => println!(rt; "load refused at {}", at.offset),
+        Err(ListingError::Refused(_)) => println!(rt; "load refused"),
     }
 }

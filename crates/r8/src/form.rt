@@ -3,22 +3,21 @@ ghost use Rattle.std.specs.Prelude.{◌≡◌};
 ghost use Rattle.r8.specs.Form.{form_numbers, formed};
 
 use super::codes;
-use forms::{Form, FormAnswer};
+use forms::{Form, Operands, Parts};
 
 #[tactic(auto, unfolding(crate::specs::Form::form_numbers))]
 fn form_numbers(form: Form) -> [u16; 7]
     ensures { result ≡ form_numbers form }
 {
-    let parts = forms::parts_of(form);
-    let x = parts.1;
+    let Parts(entry, Operands(t, a, b, k, d10, d12)) = forms::parts_of(form);
     [
-        parts.0 as u16,
-        x.0 as u16,
-        x.1 as u16,
-        x.2 as u16,
-        x.3,
-        forms::unsigned_of(x.4),
-        forms::unsigned_of(x.5),
+        u16::from(entry),
+        u16::from(t),
+        u16::from(a),
+        u16::from(b),
+        k,
+        d10.cast_unsigned(),
+        d12.cast_unsigned(),
     ]
 }
 
@@ -29,13 +28,11 @@ pub fn r8_form(word: u16, form: &mut [u16]) -> u32
     if form.len() < 7 {
         return codes::NO_ROOM;
     }
-    let answer = forms::word_to_form(word);
-    match answer {
-        FormAnswer::Read(read) => {
-            let numbers = form_numbers(read);
-            super::copy::words(&numbers, form);
+    match forms::word_to_form(word) {
+        Ok(read) => {
+            super::copy::words(&form_numbers(read), form);
             codes::OK
         }
-        FormAnswer::Undefined => codes::UNDEFINED,
+        Err(_) => codes::UNDEFINED,
     }
 }

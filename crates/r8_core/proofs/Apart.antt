@@ -2,6 +2,7 @@
 -- found in what it is read as. Assumes nothing.
 use mathlib.Core.Path.{◌≡◌, refl, ap}
 use Prim.Native.Nat.{ℕ, ◌≤◌}
+use Rattle.std.specs.Prelude.{Result, Ok, Err}
 use native.Mathlib.Omega.{arith}
 use lib.Dec.{lit≤}
 use Rattle.refusals.specs.Refusals.{refusal_number}
@@ -16,34 +17,35 @@ use Rattle.r8_core.specs.Calls.{viewed}
 use Rattle.r8_core.specs.Answers.{load_answer_of, run_answer_of, view_answer_of}
 use Rattle.r8_core.specs.Cores.{Visible}
 use Rattle.r8_core.specs.TheoremsOfCalls.{ReadApart, ReadExactly}
-use Rattle.r8_core.specs.declared.LoadAnswer.{LoadAnswer}
-use Rattle.r8_core.specs.declared.LoadAnswer.TheVariants as loading
-use Rattle.r8_core.specs.declared.RunAnswer.{RunAnswer}
-use Rattle.r8_core.specs.declared.RunAnswer.TheVariants as running
-use Rattle.r8_core.specs.declared.ViewAnswer.{ViewAnswer}
-use Rattle.r8_core.specs.declared.ViewAnswer.TheVariants as viewing
+use Rattle.r8_core.specs.declared.Ran.{Ran}
+use Rattle.r8_core.specs.declared.ListingError.{ListingError}
+use Rattle.r8_core.specs.declared.ListingError.TheVariants.{Refused, Faulty}
 use Rattle.r8_core.specs.declared.Snapshot.{Snapshot}
 
-load_apart : (x y : LoadAnswer) → load_answer_of x ≡ load_answer_of y → x ≡ y
-load_apart (loading.Stored n) (loading.Stored m) e = cc
-load_apart (loading.Stored n) (loading.Refused y) e = cc
-load_apart (loading.Stored n) (loading.Faulty g m) e = cc
-load_apart (loading.Refused x) (loading.Stored m) e = cc
-load_apart (loading.Refused x) (loading.Refused y) e = ap loading.Refused (numbers_apart x y cc)
-load_apart (loading.Refused x) (loading.Faulty g m) e = cc
-load_apart (loading.Faulty f n) (loading.Stored m) e = cc
-load_apart (loading.Faulty f n) (loading.Refused y) e = cc
-load_apart (loading.Faulty f n) (loading.Faulty g m) e = let fault = faults_apart.0 f g cc in cc
+load_apart : (x y : Result ℕ ListingError) → load_answer_of x ≡ load_answer_of y → x ≡ y
+load_apart (Ok n) (Ok m) e = cc
+load_apart (Ok n) (Err (Refused y)) e = cc
+load_apart (Ok n) (Err (Faulty y)) e = cc
+load_apart (Err (Refused x)) (Ok m) e = cc
+load_apart (Err (Refused x)) (Err (Refused y)) e = ap (λ (w : Refusal). Err (Refused w)) (numbers_apart x y cc)
+load_apart (Err (Refused x)) (Err (Faulty y)) e = cc
+load_apart (Err (Faulty x)) (Ok m) e = cc
+load_apart (Err (Faulty x)) (Err (Refused y)) e = cc
+load_apart (Err (Faulty x)) (Err (Faulty y)) e =
+    let number : fault_number x.fault ≡ fault_number y.fault = cc in
+    let offset : x.offset ≡ y.offset = cc in
+    let fault = faults_apart.0 x.fault y.fault number in
+    λ j. Err (Faulty (record { fault = fault j; offset = offset j }))
 
-run_apart : (x y : RunAnswer) → run_answer_of x ≡ run_answer_of y → x ≡ y
-run_apart (running.Ran b i end) (running.Ran c k last) e =
-    let cycles : b.0 ≡ c.0 = cc in
-    let instructions : i.0 ≡ k.0 = cc in
-    let letter : end ≡ last = cc in
-    λ j. running.Ran (record { 0 = cycles j }) (record { 0 = instructions j }) (letter j)
-run_apart (running.Ran b i end) (running.Refused y) e = cc
-run_apart (running.Refused x) (running.Ran c k last) e = cc
-run_apart (running.Refused x) (running.Refused y) e = ap running.Refused (numbers_apart x y cc)
+run_apart : (x y : Result Ran Refusal) → run_answer_of x ≡ run_answer_of y → x ≡ y
+run_apart (Ok x) (Ok y) e =
+    let cycles : x.cycles.0 ≡ y.cycles.0 = cc in
+    let instructions : x.instructions.0 ≡ y.instructions.0 = cc in
+    let letter : x.end ≡ y.end = cc in
+    λ j. Ok (record { cycles = record { 0 = cycles j }; instructions = record { 0 = instructions j }; end = letter j })
+run_apart (Ok x) (Err y) e = cc
+run_apart (Err x) (Ok y) e = cc
+run_apart (Err x) (Err y) e = ap Err (numbers_apart x y cc)
 
 -- what a view showed, of the parts of its answer
 abbrev snapshot_from : Visible → ℕ → ℕ → Snapshot
@@ -53,11 +55,11 @@ snapshot_from v due clock =
 shown_apart : (v w : Visible) (due next clock time : ℕ) → viewed v due clock ≡ viewed w next time → snapshot_from v due clock ≡ snapshot_from w next time
 shown_apart v w due next clock time e = cc
 
-view_apart : (a b : ViewAnswer) (s t : Snapshot) → view_answer_of a s ≡ view_answer_of b t → (a ≡ b) × (a ≡ viewing.Viewed → s ≡ t)
-view_apart viewing.Viewed viewing.Viewed s t e = (refl, λ taken. shown_apart _ _ _ _ _ _ e)
-view_apart viewing.Viewed (viewing.Refused y) s t e = (cc, λ taken. cc)
-view_apart (viewing.Refused x) viewing.Viewed s t e = (cc, λ taken. cc)
-view_apart (viewing.Refused x) (viewing.Refused y) s t e = (ap viewing.Refused (numbers_apart x y cc), λ taken. cc)
+view_apart : (x y : Result Snapshot Refusal) → view_answer_of x ≡ view_answer_of y → x ≡ y
+view_apart (Ok s) (Ok t) e = ap Ok (shown_apart _ _ _ _ _ _ e)
+view_apart (Ok s) (Err y) e = cc
+view_apart (Err x) (Ok t) e = cc
+view_apart (Err x) (Err y) e = ap Err (numbers_apart x y cc)
 
 -- 2 to 4 are numbers of faults, and of no refusal
 fault_range : (fault : Fault) → (2 ≤ fault_number fault) × (fault_number fault ≤ 4)
@@ -76,5 +78,5 @@ pub read_apart : ReadApart
 read_apart = (load_apart, run_apart, view_apart, λ why fault e. no_fault why (fault_number fault) (fault_range fault) e)
 
 pub read_exactly : ReadExactly
-read_exactly core memory l r v n fault cycles instructions end =
+read_exactly core memory l r v n at ran_so =
     ((refl, refl), (refl, refl), (refl, refl), (refl, refl), refl, refl, refl, refl, refl, refl, refl, refl, refl, refl, refl)

@@ -1,25 +1,25 @@
 -- Laws for the code of the calls: the reply that a number makes, and where a call starts.
 use mathlib.Core.Path.{◌≡◌, refl, sym, ap, ◌∙◌}
-use mathlib.Core.Bool.{Bool, true, false, cond, not}
-use mathlib.Core.List.{List, []}
-use borrow.Author.Tests.{ne_eqb, not-false}
+use mathlib.Core.Bool.{Bool, true, false, cond}
+use mathlib.Core.List.{List}
+use borrow.Author.Tests.{ne_eqb}
 use Prim.Native.Nat.{ℕ, ◌-◌, ◌≤◌}
 use native.Mathlib.Omega.{arith}
 use lib.Dec.{lit≤}
 use lib.ListN.{length, length-set}
 use Rattle.words.specs.Arithmetic.{bit}
-use Rattle.refusals.specs.Refusals.{refusal_number, first_number}
+use Rattle.refusals.specs.Refusals.{refusal_number}
 use Rattle.refusals.specs.declared.Refusal.{Refusal}
-use Rattle.refusals.proofs.First.{passed, none_left, none_applies, has_number}
+use Rattle.refusals.proofs.First.{has_number}
 use Rattle.effects.specs.Effect.{applied}
 use Rattle.effects.specs.declared.Store.{Store}
 use Rattle.effects.specs.declared.Store.TheVariants.{Nothing, Word}
 use Rattle.r8_core.specs.Cores.{visible_of}
 use Rattle.r8_core.specs.Instruction.{takes, step_transition}
 use Rattle.r8_core.specs.Spent.{due_one, due_in_range}
-use Rattle.r8_core.specs.Numbers.{run_number, step_number, view_number}
+use Rattle.r8_core.specs.Numbers.{run_number, step_number}
 use Rattle.r8_core.specs.Progress.{Progress, starting, cycles_on}
-use Rattle.r8_core.specs.Calls.{refused, Reply, unless, ran_reply, stepped_reply, viewed_reply, run, step, view}
+use Rattle.r8_core.specs.Calls.{refused, Reply, unless, ran_reply, stepped_reply, run, step}
 use Rattle.r8_core.specs.declared.Core.{Core}
 use Rattle.r8_core.proofs.Cycles.{no_cycle}
 use Rattle.r8_core.proofs.Taken.{reply_own}
@@ -59,20 +59,3 @@ bit_small false = lit≤ tt
 pub applied_length : (store : Store) (memory : List ℕ) → length (applied store memory) ≡ length memory
 applied_length Nothing memory = refl
 applied_length (Word address word) memory = length-set memory address word
-
--- what a view's number says of the cycle due
-pub one_when : (one : Bool) → view_number one ≡ 0 → one ≡ true
-unfolding view_number
-one_when one e = not-false one (none_applies 6 (not one) _ e).0
-
-pub other_when : (one : Bool) (why : Refusal) → refusal_number why ≡ view_number one → one ≡ false
-unfolding view_number first_number
-other_when false why e = refl
-other_when true why e = absurd (has_number why e)
-
--- a view that is taken
-pub view_taken : (core : Core) → due_one core ≡ true → viewed_reply core ≡ view core
-unfolding view view_number
-view_taken core one =
-    let number = passed 7 (not (due_one core)) [] (ap not one) ∙ none_left in
-    λ j memory. unless (sym number j) core memory (viewed_reply core memory)

@@ -2,13 +2,12 @@
 -- cycles.
 use mathlib.Core.Path.{◌≡◌, refl, sym, ap, subst, ◌∙◌}
 use mathlib.Core.Bool.{Bool, true, false, cond}
-use mathlib.Core.Logic.{◌⊎◌, inl, inr, ⊎_elim}
 use mathlib.Core.List.{List}
 use Prim.Native.Nat.{ℕ, zero, suc, ◌+◌, ◌-◌, ◌≤◌, ◌<◌}
 use native.Mathlib.Omega.{arith}
 use native.Mathlib.Nat.{add-zero, zero-add}
-use borrow.Author.Tests.{ltb-true, ltb-false, leb-true, le-leb}
-use lib.Dec.{ltb, leb}
+use borrow.Author.Tests.{leb-true, le-leb}
+use lib.Dec.{leb}
 use lib.ListN.{length, length-set}
 use Rattle.isa.specs.Fields.{field_t, field_a, field_b}
 use Rattle.table.specs.Table.{kind_of}
@@ -16,9 +15,9 @@ use Rattle.effects.specs.Hidden.{no_hidden, with_ir, with_ra_rb}
 use Rattle.effects.specs.Cycles.{calculated, leaving}
 use Rattle.effects.proofs.Theorems.{second_of}
 use Rattle.effects.specs.declared.Stop.{Stop}
-use Rattle.r8_core.specs.Cores.{with_hidden, with_due, with_clock, Visible, visible_of, register}
+use Rattle.r8_core.specs.Cores.{with_hidden, with_due, with_clock, visible_of, register}
 use Rattle.r8_core.specs.Spent.{due_in_range, due_one}
-use Rattle.r8_core.specs.Instruction.{word_due, effect_of, after, memory_after, takes, core_after, step_transition}
+use Rattle.r8_core.specs.Instruction.{word_due, after, memory_after, takes, core_after, step_transition}
 use Rattle.r8_core.specs.Datapath.{due_cycle}
 use Rattle.r8_core.specs.Numbers.{is_going, longest}
 use Rattle.r8_core.specs.Progress.{Progress, starting, cycle_on, cycles_on, instruction_on}
@@ -30,7 +29,7 @@ use Rattle.r8_core.proofs.Spent.{both, due_when_one}
 use Rattle.r8_core.proofs.Cycles.{only_going, one_more, none_more, no_cycle, cycles_add, counted, cycles_counted, cost_range}
 use Rattle.r8_core.proofs.OneInstruction.{one_instruction}
 use Rattle.r8_core.proofs.Endings.{clock_moves}
-use Rattle.r8_core.proofs.Replies.{bit_small, applied_length}
+use Rattle.r8_core.proofs.Replies.{bit_small}
 use Rattle.r8_core.proofs.Again.{due_stays, length_stays}
 
 -- the instruction engine on the two parts of a core, with all else as it is in a core with cycle 1 due
@@ -53,9 +52,11 @@ core_after_lem core one M regs s used =
 pub bank_length : (M regs : List ℕ) (s : Working) → length (bank_on M regs s) ≡ length regs
 bank_length M regs s = length-set regs _ _
 
-pub memory_length : (M : List ℕ) (v : Visible) → length (memory_after M v) ≡ length M
-unfolding memory_after
-memory_length M v = applied_length (effect_of (word_due M v) M v).store M
+-- what lets a whole instruction be executed
+pub goes_on_when : (s : Stop) (left : ℕ) → has_room s left ≡ true → (is_going s ≡ true) × (longest ≤ left)
+goes_on_when s left e =
+    let tests = both (is_going s) (leb longest left) e in
+    (tests.0, leb-true longest left tests.1)
 
 -- a run of a budget b under way
 abbrev pub under : Core → Working → List ℕ → List ℕ → ℕ → ℕ → Progress
@@ -73,23 +74,6 @@ past_one core one s s' regs regs' M M' b count count' e r m fits most f =
     let after = (λ j. joined core (e j) (r j) (used j)) ∙ core_after_lem core one M regs s (b - s.left.0) in
     λ j. record { core = after j; memory = m j; used = used j; finished = f j }
 
--- two tests that do not both hold
-one_fails : (x y : Bool) → cond x y false ≡ false → (x ≡ false) ⊎ (y ≡ false)
-one_fails true y e = inr e
-one_fails false y e = inl refl
-
--- what lets a whole instruction be executed; and the loop's test of it, which asks too whether one more is to be
-goes_on_when : (s : Stop) (left : ℕ) → has_room s left ≡ true → (is_going s ≡ true) × (longest ≤ left)
-goes_on_when s left e =
-    let tests = both (is_going s) (leb longest left) e in
-    (tests.0, leb-true longest left tests.1)
-
-pub one_asked : (s : Working) (more : ℕ) → cond (has_room s.stop s.left.0) (ltb 0 more) false ≡ true
-    → (has_room s.stop s.left.0 ≡ true) × (longest ≤ s.left.0) × (0 < more)
-one_asked s more e =
-    let tests = both (has_room s.stop s.left.0) (ltb 0 more) e in
-    (tests.0, (goes_on_when s.stop s.left.0 tests.0).1, ltb-true 0 more tests.1)
-
 -- one instruction more, and none
 pub next_one : (n b : ℕ) (p q : Progress) → has_room p.core.stop (b - p.used) ≡ true → q ≡ instruction_on p
     → instructions_on (suc n) b p ≡ instructions_on n b q
@@ -97,18 +81,14 @@ unfolding instructions_on
 next_one n b p q g e =
     ap (λ (goes : Bool). cond goes (instructions_on n b (instruction_on p)) p) g ∙ ap (instructions_on n b) (sym e)
 
-no_next : (n b : ℕ) (p : Progress) → has_room p.core.stop (b - p.used) ≡ false → instructions_on n b p ≡ p
+pub no_next : (n b : ℕ) (p : Progress) → has_room p.core.stop (b - p.used) ≡ false → instructions_on n b p ≡ p
 unfolding instructions_on
 no_next zero b p g = refl
 no_next (suc n) b p g = ap (λ (goes : Bool). cond goes (instructions_on n b (instruction_on p)) p) g
 
-pub none_asked : (n b : ℕ) (p : Progress) → cond (has_room p.core.stop (b - p.used)) (ltb 0 n) false ≡ false → instructions_on n b p ≡ p
+pub none_asked : (n b : ℕ) (p : Progress) → n ≤ 0 → instructions_on n b p ≡ p
 unfolding instructions_on
-none_asked n b p e =
-    ⊎_elim
-    (no_next n b p)
-    (λ e. let none : n ≡ 0 = omega (arith, ltb-false 0 n e) in ap (λ (n : ℕ). instructions_on n b p) none)
-    (one_fails (has_room p.core.stop (b - p.used)) (ltb 0 n) e)
+none_asked n b p e = let none : n ≡ 0 = omega arith in ap (λ (n : ℕ). instructions_on n b p) none
 
 -- q is k cycles on from p, within a budget
 record Along (b : ℕ) (p q : Progress) : Type 0 where

@@ -1,35 +1,30 @@
 -- What the code of the calls gives back, read as the answers and replies of Calls: document 01's number and values for each case.
-use Rattle.std.specs.Prelude.{List, ℕ}
+use Rattle.std.specs.Prelude.{List, ℕ, Result, Ok, Err}
 use Rattle.refusals.specs.Refusals.{refusal_number}
+use Rattle.refusals.specs.declared.Refusal.{Refusal}
 use Rattle.listing.specs.Answers.{fault_number}
 use Rattle.r8_core.specs.Cores.{visible}
 use Rattle.r8_core.specs.Calls.{Answer, done, stored, ran, viewed, refused, refused_at, Reply}
 use Rattle.r8_core.specs.declared.Core.{Core}
-use Rattle.r8_core.specs.declared.LoadAnswer.{LoadAnswer}
-use Rattle.r8_core.specs.declared.LoadAnswer.TheVariants as loading
-use Rattle.r8_core.specs.declared.RunAnswer.{RunAnswer}
-use Rattle.r8_core.specs.declared.RunAnswer.TheVariants as running
-use Rattle.r8_core.specs.declared.ViewAnswer.{ViewAnswer}
-use Rattle.r8_core.specs.declared.ViewAnswer.TheVariants as viewing
-use Rattle.r8_core.specs.declared.LoadReply.{LoadReply}
-use Rattle.r8_core.specs.declared.RunReply.{RunReply}
-use Rattle.r8_core.specs.declared.ViewReply.{ViewReply}
+use Rattle.r8_core.specs.declared.Ran.{Ran}
+use Rattle.r8_core.specs.declared.ListingError.{ListingError}
+use Rattle.r8_core.specs.declared.ListingError.TheVariants.{Refused, Faulty}
+use Rattle.r8_core.specs.declared.Answered.{Answered}
 use Rattle.r8_core.specs.declared.Snapshot.{Snapshot}
 
 -- the answers
-abbrev pub load_answer_of : LoadAnswer → Answer
-load_answer_of (loading.Stored count) = stored count
-load_answer_of (loading.Refused why) = refused (refusal_number why)
-load_answer_of (loading.Faulty fault offset) = refused_at (fault_number fault) offset
+abbrev pub load_answer_of : Result ℕ ListingError → Answer
+load_answer_of (Ok count) = stored count
+load_answer_of (Err (Refused why)) = refused (refusal_number why)
+load_answer_of (Err (Faulty at)) = refused_at (fault_number at.fault) at.offset
 
-abbrev pub run_answer_of : RunAnswer → Answer
-run_answer_of (running.Ran cycles instructions end) = ran cycles.0 instructions.0 end
-run_answer_of (running.Refused why) = refused (refusal_number why)
+abbrev pub run_answer_of : Result Ran Refusal → Answer
+run_answer_of (Ok r) = ran r.cycles.0 r.instructions.0 r.end
+run_answer_of (Err why) = refused (refusal_number why)
 
-abbrev pub view_answer_of : ViewAnswer → Snapshot → Answer
-view_answer_of viewing.Viewed s =
-    viewed (visible s.regs s.pc s.sp s.flags s.stop) s.due s.clock.0
-view_answer_of (viewing.Refused why) s = refused (refusal_number why)
+abbrev pub view_answer_of : Result Snapshot Refusal → Answer
+view_answer_of (Ok s) = viewed (visible s.regs s.pc s.sp s.flags s.stop) s.due s.clock.0
+view_answer_of (Err why) = refused (refusal_number why)
 
 -- what view shows of a core: all but the hidden registers
 abbrev pub shown : Core → Snapshot
@@ -44,6 +39,16 @@ shown core =
       clock = core.clock;
     }
 
+-- what the calls that answer give back, as the code names it
+abbrev pub LoadReply : Type 0
+LoadReply = Answered (Result ℕ ListingError)
+
+abbrev pub RunReply : Type 0
+RunReply = Answered (Result Ran Refusal)
+
+abbrev pub ViewReply : Type 0
+ViewReply = Answered (Result Snapshot Refusal)
+
 -- what each call gave back, with the memory as it then is. Reset and view are lent none and cannot change it: theirs are functions of the
 -- memory there is, and hand it on
 abbrev pub reset_gave : Core → List ℕ → Reply
@@ -56,4 +61,4 @@ abbrev pub run_gave : RunReply → List ℕ → Reply
 run_gave r memory = record { answer = run_answer_of r.answer; core = r.core; memory = memory }
 
 abbrev pub view_gave : ViewReply → List ℕ → Reply
-view_gave r memory = record { answer = view_answer_of r.answer r.snapshot; core = r.core; memory = memory }
+view_gave r memory = record { answer = view_answer_of r.answer; core = r.core; memory = memory }

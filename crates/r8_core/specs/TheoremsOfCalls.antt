@@ -1,15 +1,15 @@
 -- What the calls come to, for every core and memory: when a call is refused, and that it then changes nothing; what it does where it is
 -- taken; and that different answers are read differently, each by its own parts. Ten statements, proved in proofs/Refusals.antt, proofs/Taken.antt,
 -- proofs/Again.antt and proofs/Apart.antt.
-use Rattle.std.specs.Prelude.{◌≡◌, ◌↔◌, ◌⊎◌, false, List, [], ◌∷◌, ℕ, ◌+◌, ◌≤◌, ◌<◌, length}
+use Rattle.std.specs.Prelude.{◌≡◌, ◌↔◌, ◌⊎◌, false, List, [], ◌∷◌, ℕ, ◌+◌, ◌≤◌, ◌<◌, length, Result, Ok, Err}
 use Rattle.refusals.specs.Refusals.{refusal_number}
 use Rattle.refusals.specs.Theorems.{First, NoneApplies}
 use Rattle.refusals.specs.declared.Refusal.{Refusal}
 use Rattle.listing.specs.Answers as listing
 use Rattle.listing.specs.Listing.{listing_answer, listing_memory}
 use Rattle.listing.specs.declared.Fault.{Fault}
+use Rattle.listing.specs.declared.FaultAt.{FaultAt}
 use Rattle.words.specs.Arithmetic.{bit}
-use Rattle.isa.specs.declared.Cycles.{Cycles}
 use Rattle.effects.specs.declared.Stop.TheVariants.{Going, Halted, Undefined}
 use Rattle.effects.specs.declared.Store.TheVariants.{Nothing}
 use Rattle.effects.specs.Effect.{applied}
@@ -17,23 +17,16 @@ use Rattle.effects.specs.Hidden.{no_hidden}
 use Rattle.r8_core.specs.Cores.{fresh_core, with_hidden, visible_of}
 use Rattle.r8_core.specs.Instruction.{takes}
 use Rattle.r8_core.specs.Calls.{Answer, done, stored, ran, viewed, refused, refused_at, Reply, reset, load, view, run, step}
-use Rattle.r8_core.specs.Answers.{load_answer_of, run_answer_of, view_answer_of, shown, reset_gave, load_gave, run_gave, view_gave}
+use Rattle.r8_core.specs.Answers.{LoadReply, RunReply, ViewReply, load_answer_of, run_answer_of, view_answer_of, shown, reset_gave, load_gave, run_gave, view_gave}
 use Rattle.r8_core.specs.Datapath.{due_cycle, cycle_or_idle}
 use Rattle.r8_core.specs.declared.Core.{Core}
 use Rattle.r8_core.specs.declared.Transition.{Transition}
-use Rattle.r8_core.specs.declared.Instructions.{Instructions}
 use Rattle.r8_core.specs.declared.End.{End}
 use Rattle.r8_core.specs.declared.End.TheVariants.{H, U, B, M}
-use Rattle.r8_core.specs.declared.LoadAnswer.{LoadAnswer}
-use Rattle.r8_core.specs.declared.LoadAnswer.TheVariants.{Stored, Faulty}
-use Rattle.r8_core.specs.declared.RunAnswer.{RunAnswer}
-use Rattle.r8_core.specs.declared.RunAnswer.TheVariants.{Ran}
-use Rattle.r8_core.specs.declared.ViewAnswer.{ViewAnswer}
-use Rattle.r8_core.specs.declared.ViewAnswer.TheVariants.{Viewed}
+use Rattle.r8_core.specs.declared.Ran.{Ran}
+use Rattle.r8_core.specs.declared.ListingError.{ListingError}
+use Rattle.r8_core.specs.declared.ListingError.TheVariants.{Faulty}
 use Rattle.r8_core.specs.declared.Snapshot.{Snapshot}
-use Rattle.r8_core.specs.declared.LoadReply.{LoadReply}
-use Rattle.r8_core.specs.declared.RunReply.{RunReply}
-use Rattle.r8_core.specs.declared.ViewReply.{ViewReply}
 
 -- '1: L is 0 or above 65,536'; '8: stopped'; '7: cycle due is not 1'
 abbrev pub WrongLength : List ℕ → Type 0
@@ -196,13 +189,13 @@ OthersTaken =
     × ((reset core memory).memory ≡ memory)
 
 -- 'this paper's number and values for each of its cases': different answers of a load, of a run or a step, and of a view are read
--- differently; and no refusal has a fault's number, so that with `NumbersApart` and `FaultsApart` each has one meaning. What a refused view
--- shows is no part of its answer: the contract of view says what it is (proved as `read_apart`)
+-- differently; and no refusal has a fault's number, so that with `NumbersApart` and `FaultsApart` each has one meaning (proved as
+-- `read_apart`)
 abbrev pub ReadApart : Type 0
 ReadApart =
-    ((x y : LoadAnswer) → load_answer_of x ≡ load_answer_of y → x ≡ y)
-    × ((x y : RunAnswer) → run_answer_of x ≡ run_answer_of y → x ≡ y)
-    × ((a b : ViewAnswer) (s t : Snapshot) → view_answer_of a s ≡ view_answer_of b t → (a ≡ b) × (a ≡ Viewed → s ≡ t))
+    ((x y : Result ℕ ListingError) → load_answer_of x ≡ load_answer_of y → x ≡ y)
+    × ((x y : Result Ran Refusal) → run_answer_of x ≡ run_answer_of y → x ≡ y)
+    × ((x y : Result Snapshot Refusal) → view_answer_of x ≡ view_answer_of y → x ≡ y)
     × ((why : Refusal) (fault : Fault) → refusal_number why ≡ listing.fault_number fault → ⊥)
 
 -- a reply that hands back this core and this memory
@@ -214,15 +207,14 @@ Hands core memory reply = (reply.core ≡ core) × (reply.memory ≡ memory)
 -- as `read_exactly`)
 abbrev pub ReadExactly : Type 0
 ReadExactly =
-    (core : Core) (memory : List ℕ) (l : LoadReply) (r : RunReply) (v : ViewReply) (n : ℕ) (fault : Fault)
-    → (cycles : Cycles) (instructions : Instructions) (end : End)
+    (core : Core) (memory : List ℕ) (l : LoadReply) (r : RunReply) (v : ViewReply) (n : ℕ) (at : FaultAt) (ran_so : Ran)
     → Hands core memory (reset_gave core memory)
     × Hands l.core memory (load_gave l memory)
     × Hands r.core memory (run_gave r memory)
     × Hands v.core memory (view_gave v memory)
-    × (load_answer_of (Stored n) ≡ stored n)
-    × (load_answer_of (Faulty fault n) ≡ refused_at (listing.fault_number fault) n)
-    × (run_answer_of (Ran cycles instructions end) ≡ ran cycles.0 instructions.0 end)
+    × (load_answer_of (Ok n) ≡ stored n)
+    × (load_answer_of (Err (Faulty at)) ≡ refused_at (listing.fault_number at.fault) at.offset)
+    × (run_answer_of (Ok ran_so) ≡ ran ran_so.cycles.0 ran_so.instructions.0 ran_so.end)
     × ((shown core).regs ≡ core.regs)
     × ((shown core).pc ≡ core.pc)
     × ((shown core).sp ≡ core.sp)
@@ -230,4 +222,4 @@ ReadExactly =
     × ((shown core).stop ≡ core.stop)
     × ((shown core).due ≡ core.due)
     × ((shown core).clock ≡ core.clock)
-    × (view_answer_of Viewed (shown core) ≡ viewed (visible_of core) core.due core.clock.0)
+    × (view_answer_of (Ok (shown core)) ≡ viewed (visible_of core) core.due core.clock.0)

@@ -5,12 +5,11 @@
 
 ghost use Rattle.std.specs.Prelude.{◌≡◌, true, false, cond, ◌+◌, ◌≤◌, ◌<◌, ltb, set};
 ghost use Rattle.words.specs.Arithmetic.{bit};
-ghost use Rattle.refusals.specs.Refusals.{refusal_number};
 ghost use Rattle.refusals.specs.Verdicts.{verdict_number};
-ghost use Rattle.listing.specs.Answers.{store_answer};
 ghost use Rattle.effects.specs.Effect.{applied};
 ghost use Rattle.effects.specs.Hidden.{no_hidden};
 ghost use Rattle.effects.specs.Cycles.{stop_of};
+ghost use Rattle.r8_core.specs.declared.ListingError.TheVariants.{Refused, Faulty};
 ghost use Rattle.r8_core.specs.Cores.{fresh_core, with_hidden, stopped, visible_of, register, effect_before};
 ghost use Rattle.r8_core.specs.Spent.{spent_of, due_in_range, due_one};
 ghost use Rattle.r8_core.specs.Datapath.{fetched, latched, second, with_result, third, with_effect, due_after, ticked, transition, idle, is_last, later_cycle, due_cycle, cycle_or_idle};
@@ -18,14 +17,14 @@ ghost use Rattle.r8_core.specs.Instruction.{memory_after};
 ghost use Rattle.r8_core.specs.WholeInstructions.{working_from, seen, joined, effect_before_of, executed_of, working_after, working_on, bank_on, has_room, instructions_on, instructions_or_cycle, reached};
 ghost use Rattle.r8_core.specs.Numbers.{is_going, longest, clock_full, view_number, load_number, run_number};
 ghost use Rattle.r8_core.specs.Progress.{starting, cycle_on};
-ghost use Rattle.r8_core.specs.Calls.{ran, refused, load_answer, going_end, end_of, reset, load, run, step, view};
-ghost use Rattle.r8_core.specs.Answers.{load_answer_of, run_answer_of, shown, reset_gave, load_gave, run_gave, view_gave};
+ghost use Rattle.r8_core.specs.Calls.{ran, going_end, end_of, reset, load, run, step, view};
+ghost use Rattle.r8_core.specs.Answers.{run_answer_of, shown, reset_gave, load_gave, run_gave, view_gave};
 
 use alu::Outcome;
 use effects::{Effect, Executed, Hidden, Stop, Store};
 use isa::{Cycles, Flags, Kind};
-use listing::{Fault, StoreAnswer};
-use refusals::{Refusal, Verdict};
+use listing::FaultAt;
+use refusals::Refusal;
 
 // The most cycles that an instruction takes.
 const LONGEST: u32 = 4;
@@ -34,8 +33,7 @@ const LONGEST: u32 = 4;
 #[derive(Clone, Copy)]
 pub struct Instructions(pub u32);
 
-// The core. `due` is the cycle due next, 1 to 4 on every core that calls make of a fresh one. A core is written out in `fresh` and `with_stop`
-// alone.
+// The core. `due` is the cycle due next, 1 to 4 on every core that calls make of a fresh one. A core is written out in `fresh` alone.
 #[derive(Clone, Copy)]
 pub struct Core {
     pub regs: [u16; 16],
@@ -85,30 +83,35 @@ pub enum End {
     M,
 }
 
-// How many words a load stored; or why it did not start; or the first fault of the listing and the offset of its line's start.
+// What a run or a step that is taken did.
 #[derive(Clone, Copy)]
-pub enum LoadAnswer {
-    Stored(usize),
-    Refused(Refusal),
-    Faulty(Fault, usize),
+pub struct Ran {
+    pub cycles: Cycles,
+    pub instructions: Instructions,
+    pub end: End,
 }
 
-// What a run or a step answers.
+// Why a listing was not loaded, or not written out: the call is refused, or a line is at fault.
 #[derive(Clone, Copy)]
-pub enum RunAnswer {
-    Ran {
-        cycles: Cycles,
-        instructions: Instructions,
-        end: End,
-    },
+pub enum ListingError {
     Refused(Refusal),
+    Faulty(FaultAt),
 }
 
-// A view answers its number, or that the snapshot beside it holds.
-#[derive(Clone, Copy)]
-pub enum ViewAnswer {
-    Viewed,
-    Refused(Refusal),
+impl From<Refusal> for ListingError {
+    ghost from_gives = { λ why e. e ≡ Refused why };
+
+    fn from(why: Refusal) -> ListingError {
+        ListingError::Refused(why)
+    }
+}
+
+impl From<FaultAt> for ListingError {
+    ghost from_gives = { λ at e. e ≡ Faulty at };
+
+    fn from(at: FaultAt) -> ListingError {
+        ListingError::Faulty(at)
+    }
 }
 
 // All of a core but its hidden registers.
@@ -123,27 +126,21 @@ pub struct Snapshot {
     pub clock: Cycles,
 }
 
-// What a call gives back: the next core and the answer. An enum cannot hold a bank of registers, so the core stands beside the answer, and
-// so does what a view shows.
+// What a call gives back: the next core and the answer.
 #[derive(Clone, Copy)]
-pub struct LoadReply {
+pub struct Answered<A> {
     pub core: Core,
-    pub answer: LoadAnswer,
+    pub answer: A,
 }
 
-#[derive(Clone, Copy)]
-pub struct RunReply {
-    pub core: Core,
-    pub answer: RunAnswer,
-}
+// How many words a load stored, or why it stored none.
+pub type LoadReply = Answered<Result<usize, ListingError>>;
 
-// A refused view answers its number alone. The papers leave free what the snapshot then holds: it is that of a fresh core.
-#[derive(Clone, Copy)]
-pub struct ViewReply {
-    pub core: Core,
-    pub answer: ViewAnswer,
-    pub snapshot: Snapshot,
-}
+// What a run or a step did, or why it is refused.
+pub type RunReply = Answered<Result<Ran, Refusal>>;
+
+// What a view shows, or why it is refused.
+pub type ViewReply = Answered<Result<Snapshot, Refusal>>;
 
 // A fresh core: zero everywhere, going, with cycle 1 due.
 pub fn fresh() -> Core
@@ -177,139 +174,75 @@ fn no_hidden() -> Hidden
     }
 }
 
+// The word in a register; there is none past the bank.
 fn register_of(regs: &[u16], i: u8) -> u16
     ensures { result ≡ register regs.now i }
 {
-    words::read(regs, i as u16)
+    regs.get(usize::from(i)).copied().unwrap_or(0)
 }
 
 fn set_register(regs: &mut [u16], i: u8, value: u16)
     ensures { regs.new ≡ set regs.old i value }
 {
-    let k = i as usize;
-    if k < regs.len() {
-        regs[k] = value;
+    let i = usize::from(i);
+    if i < regs.len() {
+        regs[i] = value;
     }
-}
-
-fn due_after(finished: bool, due: u8) -> u8
-    requires { due ≤ 4 }
-    ensures { result ≡ due_after finished due }
-{
-    if finished { 1 } else { due + 1 }
 }
 
 fn is_going(stop: Stop) -> bool
     ensures { result ≡ is_going stop }
 {
-    match stop {
-        Stop::Going => true,
-        Stop::Halted => false,
-        Stop::Undefined => false,
-    }
+    matches!(stop, Stop::Going)
 }
 
 fn clock_full(clock: Cycles, b: u32) -> bool
     ensures { result ≡ clock_full clock.0 b }
 {
-    4294967295 < clock.0 as u64 + b as u64
+    clock.0.checked_add(b).is_none()
 }
 
-// The number of a view: 7.
-fn view_verdict(ready: bool) -> Verdict
-    ensures { verdict_number result ≡ view_number ready }
-{
-    Verdict::Taken.or(Refusal::WrongCycle, !ready)
-}
-
-// The numbers of a load before its lines: 1, 7.
-fn load_verdict(words: usize, ready: bool) -> Verdict
+// Why a load is refused before its lines: 1, 7.
+#[tactic(auto, unfolding(crate::specs::Numbers::load_number, refusals::specs::Refusals::first_number))]
+fn load_verdict(words: usize, ready: bool) -> Result<(), Refusal>
     ensures { verdict_number result ≡ load_number words ready }
 {
-    Verdict::Taken
-        .or(Refusal::WrongLength, refusals::wrong_length(words))
-        .or(Refusal::WrongCycle, !ready)
-}
-
-// The numbers of a run, and of a step with 4 for b: 1, 8, 7, 9.
-fn run_verdict(length: usize, stop: Stop, ready: bool, clock: Cycles, b: u32) -> Verdict
-    ensures { verdict_number result ≡ run_number length stop ready clock.0 b }
-{
-    Verdict::Taken
-        .or(Refusal::WrongLength, refusals::wrong_length(length))
-        .or(Refusal::Stopped, !is_going(stop))
-        .or(Refusal::WrongCycle, !ready)
-        .or(Refusal::ClockFull, clock_full(clock, b))
-}
-
-fn load_answer(answer: StoreAnswer) -> LoadAnswer
-    ensures { load_answer_of result ≡ load_answer (store_answer answer) }
-{
-    match answer {
-        StoreAnswer::Stored(count) => LoadAnswer::Stored(count),
-        StoreAnswer::Refused(fault, offset) => LoadAnswer::Faulty(fault, offset),
+    if refusals::wrong_length(words) {
+        return Err(Refusal::WrongLength);
     }
-}
-
-// The end letter.
-fn end_of(stop: Stop, first: bool) -> End
-    ensures { result ≡ end_of stop first }
-{
-    match stop {
-        Stop::Going => going_end(first),
-        Stop::Halted => End::H,
-        Stop::Undefined => End::U,
+    if !ready {
+        return Err(Refusal::WrongCycle);
     }
-}
-
-fn going_end(first: bool) -> End
-    ensures { result ≡ going_end first }
-{
-    if first { End::B } else { End::M }
-}
-
-fn count_of(finished: bool) -> u32
-    ensures { result ≡ bit finished }
-{
-    if finished { 1 } else { 0 }
+    Ok(())
 }
 
 // The store of a cycle or an instruction, made.
 fn apply(store: Store, memory: &mut [u16])
     ensures { memory.new ≡ applied store memory.old }
 {
-    match store {
-        Store::Nothing => {}
-        Store::Word { address, word } => words::write(memory, address, word),
+    if let Store::Word { address, word } = store {
+        words::write(memory, address, word);
     }
-}
-
-// Is the core going, is there room for an instruction, whatever it takes, and is one more asked?
-fn may_go_on(state: Working, more: u32) -> bool
-    ensures { result ≡ cond (has_room state.stop state.left.0) (ltb 0 more) false }
-{
-    let stop = state.stop;
-    if is_going(stop) {
-        if LONGEST <= state.left.0 {
-            return 0 < more;
-        }
-    }
-    false
 }
 
 impl Working {
+    // Is the core going, and is there room for an instruction, whatever it takes?
+    fn has_room(self) -> bool
+        ensures { result ≡ has_room self.stop self.left.0 }
+    {
+        is_going(self.stop) && LONGEST <= self.left.0
+    }
+
     // What an instruction can change, as it is with PC one past it.
     fn before(self, rt: u16) -> Effect
         ensures { result ≡ effect_before_of self rt }
     {
-        let flags = self.flags;
-        let stop = self.stop;
         Effect {
-            rt: rt,
+            rt,
             pc: words::add(self.pc, 1),
             sp: self.sp,
-            flags: flags,
-            stop: stop,
+            flags: self.flags,
+            stop: self.stop,
             store: Store::Nothing,
         }
     }
@@ -321,8 +254,7 @@ impl Working {
         let ra = register_of(regs, isa::field_a(word));
         let rb = register_of(regs, isa::field_b(word));
         let before = self.before(register_of(regs, isa::field_t(word)));
-        let hidden = self.hidden;
-        effects::execute(kind, word, ra, rb, hidden, memory, before)
+        effects::execute(kind, word, ra, rb, self.hidden, memory, before)
     }
 
     // The state after that instruction and its cycles, with the hidden registers as these leave them; `regs` are the registers before it. The
@@ -335,25 +267,24 @@ impl Working {
         let ra = register_of(regs, isa::field_a(word));
         let second = isa::second_register(kind, isa::field_t(word), isa::field_b(word));
         let rb = register_of(regs, second);
-        let changed = done.effect;
-        let flags_after = changed.flags;
-        let stop_after = changed.stop;
+        let effect = done.effect;
         let hidden = self.hidden;
         Working {
-            pc: changed.pc,
-            sp: changed.sp,
-            flags: flags_after,
+            pc: effect.pc,
+            sp: effect.sp,
+            flags: effect.flags,
             hidden: Hidden {
                 ir: word,
                 ra: effects::unless_stopping(stop, ra, hidden.ra),
                 rb: effects::unless_stopping(stop, rb, hidden.rb),
                 ralu: done.ralu,
             },
-            stop: stop_after,
+            stop: effect.stop,
             left: Cycles(self.left.0 - cycles.0),
         }
     }
 
+    #[tactic(auto, using(crate::proofs::Cycles::cost_of_range), unfolding(crate::specs::Instruction::takes, crate::specs::Instruction::memory_after))]
     // The instruction engine: the instruction at PC, with the bank and the memory changed where they lie.
     fn instruct(self, regs: &mut [u16], memory: &mut [u16]) -> Working
         requires { longest ≤ self.left.0 }
@@ -362,44 +293,27 @@ impl Working {
         let word = words::read(memory, self.pc);
         let kind = table::kind_of(word);
         let done = self.execute(kind, word, regs, memory);
-        let flags = self.flags;
-        let cycles = isa::cost(kind, flags);
-        let next = self.after(kind, word, regs, done, cycles);
-        let changed = done.effect;
-        let store = changed.store;
-        set_register(regs, isa::field_t(word), changed.rt);
-        apply(store, memory);
+        let next = self.after(kind, word, regs, done, isa::cost(kind, self.flags));
+        set_register(regs, isa::field_t(word), done.effect.rt);
+        apply(done.effect.store, memory);
         next
     }
 }
 
 impl Core {
-    // The one setter that writes the core anew, since an enum is not assigned to a field.
-    pub fn with_stop(self, next: Stop) -> Core
+    // The core in another stop state.
+    pub fn with_stop(mut self, next: Stop) -> Core
         ensures { result ≡ stopped next self }
     {
-        let regs = self.regs;
-        let flags = self.flags;
-        let hidden_registers = self.hidden;
-        let clock = self.clock;
-        Core {
-            regs: regs,
-            pc: self.pc,
-            sp: self.sp,
-            flags: flags,
-            hidden: hidden_registers,
-            due: self.due,
-            stop: next,
-            clock: clock,
-        }
+        self.stop = next;
+        self
     }
 
     // Cycle 1: IR takes M(PC); PC+1.
     fn fetch(mut self, memory: &[u16]) -> Core
         ensures { result ≡ fetched memory.now self }
     {
-        let word = words::read(memory, self.pc);
-        self.hidden.ir = word;
+        self.hidden.ir = words::read(memory, self.pc);
         self.pc = words::add(self.pc, 1);
         self
     }
@@ -408,23 +322,19 @@ impl Core {
     fn latch(mut self, kind: Kind) -> Core
         ensures { result ≡ latched kind self }
     {
-        let regs = self.regs;
         let word = self.hidden.ir;
         let t = isa::field_t(word);
         let a = isa::field_a(word);
         let b = isa::field_b(word);
-        let ra = register_of(&regs, a);
-        let rb = register_of(&regs, isa::second_register(kind, t, b));
-        self.hidden.ra = ra;
-        self.hidden.rb = rb;
+        self.hidden.ra = register_of(&self.regs, a);
+        self.hidden.rb = register_of(&self.regs, isa::second_register(kind, t, b));
         self
     }
 
     fn with_result(mut self, outcome: Outcome) -> Core
         ensures { result ≡ with_result outcome self }
     {
-        let flags = outcome.flags;
-        self.flags = flags;
+        self.flags = outcome.flags;
         self.hidden.ralu = outcome.value;
         self
     }
@@ -433,11 +343,9 @@ impl Core {
     fn stop_or_latch(self, kind: Kind) -> Core
         ensures { result ≡ second (stop_of kind) kind self }
     {
-        let stop = effects::stop_of(kind);
-        match stop {
+        match effects::stop_of(kind) {
             Stop::Going => self.latch(kind),
-            Stop::Halted => self.with_stop(Stop::Halted),
-            Stop::Undefined => self.with_stop(Stop::Undefined),
+            stop => self.with_stop(stop),
         }
     }
 
@@ -445,15 +353,12 @@ impl Core {
     fn effect_before(self) -> Effect
         ensures { result ≡ effect_before self.hidden.ir (visible_of self) }
     {
-        let regs = self.regs;
-        let flags = self.flags;
-        let stop = self.stop;
         Effect {
-            rt: register_of(&regs, isa::field_t(self.hidden.ir)),
+            rt: register_of(&self.regs, isa::field_t(self.hidden.ir)),
             pc: self.pc,
             sp: self.sp,
-            flags: flags,
-            stop: stop,
+            flags: self.flags,
+            stop: self.stop,
             store: Store::Nothing,
         }
     }
@@ -462,8 +367,7 @@ impl Core {
     fn calculate(self, kind: Kind) -> Core
         ensures { result ≡ third kind self }
     {
-        let hidden = self.hidden;
-        let outcome = effects::calculate(kind, hidden, self.effect_before());
+        let outcome = effects::calculate(kind, self.hidden, self.effect_before());
         self.with_result(outcome)
     }
 
@@ -471,69 +375,33 @@ impl Core {
     fn with_effect(mut self, effect: Effect) -> Core
         ensures { result ≡ with_effect effect self }
     {
-        let mut regs = self.regs;
-        set_register(&mut regs, isa::field_t(self.hidden.ir), effect.rt);
-        let flags = effect.flags;
-        let stop = effect.stop;
-        self.regs = regs;
+        let t = isa::field_t(self.hidden.ir);
+        set_register(&mut self.regs, t, effect.rt);
         self.pc = effect.pc;
         self.sp = effect.sp;
-        self.flags = flags;
-        self.with_stop(stop)
+        self.flags = effect.flags;
+        self.with_stop(effect.stop)
     }
 
     // Is the cycle due the last of the instruction in IR?
     fn is_last(self, kind: Kind) -> bool
         ensures { result ≡ is_last kind self }
     {
-        let flags = self.flags;
-        let cost = isa::cost(kind, flags);
-        cost.0 <= self.due as u32
+        isa::cost(kind, self.flags).0 <= u32::from(self.due)
     }
 
-    // The clock grows by 1; cycle 1 is due after the last cycle of an instruction, else the next one.
-    fn tick(mut self, finished: bool) -> Core
-        requires { (self.clock.0 < 4294967295) × (self.due ≤ 4) }
-        ensures { result ≡ ticked finished self }
-    {
-        let clock = Cycles(self.clock.0 + 1);
-        self.clock = clock;
-        self.due = due_after(finished, self.due);
-        self
-    }
-
-    fn transition(self, finished: bool, store: Store) -> Transition
+    // The core after a cycle: the clock grows by 1; cycle 1 is due after the last cycle of an instruction, else the next one.
+    fn transition(mut self, finished: bool, store: Store) -> Transition
         requires { (self.clock.0 < 4294967295) × (self.due ≤ 4) }
         ensures { result ≡ transition finished self store }
     {
+        self.clock.0 += 1;
+        self.due = if finished { 1 } else { self.due + 1 };
         Transition {
-            core: self.tick(finished),
-            finished: finished,
-            store: store,
+            core: self,
+            finished,
+            store,
         }
-    }
-
-    // One cycle of a core with cycle 2, 3 or 4 due; with another number due nothing happens (run refuses all but 1 to 4).
-    #[tactic(auto, unfolding(crate::specs::Datapath::later_cycle))]
-    fn later_cycle(self, kind: Kind, memory: &[u16]) -> Transition
-        requires { self.clock.0 < 4294967295 }
-        ensures { result ≡ later_cycle kind memory.now self }
-    {
-        let due = self.due;
-        let last = self.is_last(kind);
-        if due == 2 {
-            return self.stop_or_latch(kind).transition(last, Store::Nothing);
-        }
-        if due == 3 {
-            return self.calculate(kind).transition(last, Store::Nothing);
-        }
-        if due == 4 {
-            let hidden = self.hidden;
-            let effect = effects::write_back(kind, hidden, memory, self.effect_before());
-            let store = effect.store;
-            return self.with_effect(effect).transition(last, store);
-        }
-        self.idle()
     }
 
     // No cycle.
@@ -553,15 +421,14 @@ impl Core {
     pub fn cycle(self, memory: &[u16]) -> Transition
         ensures { result ≡ cycle_or_idle memory.now self }
     {
-        let clock = self.clock;
-        if clock_full(clock, 1) {
+        if clock_full(self.clock, 1) {
             return self.idle();
         }
         self.due_cycle(memory)
     }
 
-    // The cycle due, where the clock has room for it.
-    #[tactic(auto, unfolding(crate::specs::Datapath::due_cycle))]
+    // The cycle due, where the clock has room for it; with a number due that is none of 1 to 4 nothing happens (run refuses it).
+    #[tactic(auto, unfolding(crate::specs::Datapath::due_cycle, crate::specs::Datapath::later_cycle))]
     fn due_cycle(self, memory: &[u16]) -> Transition
         requires { self.clock.0 < 4294967295 }
         ensures { result ≡ due_cycle memory.now self }
@@ -569,23 +436,16 @@ impl Core {
         if self.due == 1 {
             return self.fetch(memory).transition(false, Store::Nothing);
         }
-        self.later_cycle(table::kind_of(self.hidden.ir), memory)
-    }
-
-    // One cycle, its store made.
-    #[tactic(auto, unfolding(crate::specs::Progress::cycle_on, crate::specs::Datapath::due_cycle))]
-    fn cycle_on(self, memory: &mut [u16]) -> Moved
-        requires { self.clock.0 < 4294967295 }
-        ensures { reached result memory.new ≡ cycle_on (starting self memory.old) }
-    {
-        let transition = self.due_cycle(memory);
-        let store = transition.store;
-        let core = transition.core;
-        apply(store, memory);
-        Moved {
-            core: core,
-            cycles: Cycles(1),
-            instructions: Instructions(count_of(transition.finished)),
+        let kind = table::kind_of(self.hidden.ir);
+        let last = self.is_last(kind);
+        match self.due {
+            2 => self.stop_or_latch(kind).transition(last, Store::Nothing),
+            3 => self.calculate(kind).transition(last, Store::Nothing),
+            4 => {
+                let effect = effects::write_back(kind, self.hidden, memory, self.effect_before());
+                self.with_effect(effect).transition(last, effect.store)
+            }
+            _ => self.idle(),
         }
     }
 
@@ -593,15 +453,12 @@ impl Core {
     fn working_from(self, b: u32) -> Working
         ensures { result ≡ working_from b self }
     {
-        let flags = self.flags;
-        let hidden = self.hidden;
-        let stop = self.stop;
         Working {
             pc: self.pc,
             sp: self.sp,
-            flags: flags,
-            hidden: hidden,
-            stop: stop,
+            flags: self.flags,
+            hidden: self.hidden,
+            stop: self.stop,
             left: Cycles(b),
         }
     }
@@ -611,17 +468,13 @@ impl Core {
         requires { self.clock.0 + used.0 ≤ 4294967295 }
         ensures { result ≡ joined self state regs used.0 }
     {
-        let flags = state.flags;
-        let hidden = state.hidden;
-        let stop = state.stop;
-        let clock = Cycles(self.clock.0 + used.0);
         self.regs = regs;
         self.pc = state.pc;
         self.sp = state.sp;
-        self.flags = flags;
-        self.hidden = hidden;
-        self.clock = clock;
-        self.with_stop(stop)
+        self.flags = state.flags;
+        self.hidden = state.hidden;
+        self.clock.0 += used.0;
+        self.with_stop(state.stop)
     }
 
     // At most `most` whole instructions of a core with cycle 1 due, each where it is going and what is left of the budget has room for one.
@@ -632,47 +485,44 @@ impl Core {
         let mut regs = self.regs;
         let mut state = self.working_from(b);
         let mut more = most;
-        while may_go_on(state, more) {
+        while 0 < more && state.has_room() {
             state = state.instruct(&mut regs, memory);
             more -= 1;
         }
-        let used = Cycles(b - state.left.0);
+        let cycles = Cycles(b - state.left.0);
         Moved {
-            core: self.joined(state, regs, used),
-            cycles: used,
+            core: self.joined(state, regs, cycles),
+            cycles,
             instructions: Instructions(most - more),
         }
     }
 
     // A turn of run's loop: whole instructions where cycle 1 is due and there is room for one, else a cycle.
+    #[tactic(auto, unfolding(crate::specs::Progress::cycle_on, crate::specs::Datapath::due_cycle))]
     fn instructions_or_cycle(self, b: u32, memory: &mut [u16]) -> Moved
         requires { (1 ≤ b) × (self.clock.0 + b ≤ 4294967295) }
         ensures { reached result memory.new ≡ instructions_or_cycle b (starting self memory.old) }
     {
-        if LONGEST <= b {
-            if self.one_due() {
-                // A copy for this call: single cycles take longer where the compiler lends it run's own core.
-                let whole = self;
-                return whole.instructions(b, b, memory);
-            }
+        if LONGEST <= b && self.one_due() {
+            // A copy for this call: single cycles take longer where the compiler lends it run's own core.
+            let whole = self;
+            return whole.instructions(b, b, memory);
         }
-        self.cycle_on(memory)
+        let transition = self.due_cycle(memory);
+        apply(transition.store, memory);
+        Moved {
+            core: transition.core,
+            cycles: Cycles(1),
+            instructions: Instructions(u32::from(transition.finished)),
+        }
     }
 
     // The hidden registers zero.
     fn without_hidden(mut self) -> Core
         ensures { result ≡ with_hidden no_hidden self }
     {
-        let hidden = no_hidden();
-        self.hidden = hidden;
+        self.hidden = no_hidden();
         self
-    }
-
-    fn goes(self) -> bool
-        ensures { result ≡ is_going self.stop }
-    {
-        let stop = self.stop;
-        is_going(stop)
     }
 
     fn one_due(self) -> bool
@@ -684,156 +534,152 @@ impl Core {
     fn due_in_range(self) -> bool
         ensures { result ≡ due_in_range self }
     {
-        if 1 <= self.due {
-            return self.due <= 4;
-        }
-        false
+        (1..=4).contains(&self.due)
     }
 
     // The cycles spent in an unfinished instruction, of a core that calls made of a fresh one.
     pub fn spent(self) -> u8
         ensures { result ≡ spent_of self }
     {
-        if self.due == 0 {
-            return 0;
-        }
-        self.due - 1
+        self.due.saturating_sub(1)
     }
 
     fn snapshot(self) -> Snapshot
         ensures { result ≡ shown self }
     {
         let regs = self.regs;
-        let flags = self.flags;
-        let stop = self.stop;
-        let clock = self.clock;
         Snapshot {
-            regs: regs,
+            regs,
             pc: self.pc,
             sp: self.sp,
-            flags: flags,
-            stop: stop,
+            flags: self.flags,
+            stop: self.stop,
             due: self.due,
-            clock: clock,
+            clock: self.clock,
         }
     }
 
-    // What a run or a step that is taken answers, beside the core that it leaves.
-    fn ran(self, used: Cycles, finished: Instructions) -> RunReply
-        ensures { (result.core ≡ self) × (run_answer_of result.answer ≡ ran used.0 finished.0 (end_of self.stop (due_one self))) }
+    // The end letter.
+    fn end(self) -> End
+        ensures { result ≡ end_of self.stop (due_one self) }
     {
-        let stop = self.stop;
-        let end = end_of(stop, self.one_due());
-        RunReply {
-            core: self,
-            answer: RunAnswer::Ran {
-                cycles: used,
-                instructions: finished,
-                end: end,
-            },
+        match self.stop {
+            Stop::Halted => End::H,
+            Stop::Undefined => End::U,
+            Stop::Going if self.one_due() => End::B,
+            Stop::Going => End::M,
         }
     }
 
-    fn run_refused(self, why: Refusal) -> RunReply
-        ensures { (result.core ≡ self) × (run_answer_of result.answer ≡ refused (refusal_number why)) }
+    // Why a run is refused, and a step with 4 for b: 1, 8, 7, 9.
+    #[tactic(auto, unfolding(crate::specs::Numbers::run_number, refusals::specs::Refusals::first_number))]
+    fn run_verdict(&self, length: usize, ready: bool, b: u32) -> Result<(), Refusal>
+        ensures { verdict_number result ≡ run_number length self.now.stop ready self.now.clock.0 b }
     {
-        let answer = RunAnswer::Refused(why);
-        RunReply {
-            core: self,
-            answer: answer,
+        if refusals::wrong_length(length) {
+            return Err(Refusal::WrongLength);
         }
-    }
-
-    // What a view answers, and what it shows.
-    fn viewed(self, answer: ViewAnswer, seen: Core) -> ViewReply
-        ensures { (result.core ≡ self) × (result.answer ≡ answer) × (result.snapshot ≡ shown seen) }
-    {
-        let snapshot = seen.snapshot();
-        ViewReply {
-            core: self,
-            answer: answer,
-            snapshot: snapshot,
+        if !is_going(self.stop) {
+            return Err(Refusal::Stopped);
         }
+        if !ready {
+            return Err(Refusal::WrongCycle);
+        }
+        if clock_full(self.clock, b) {
+            return Err(Refusal::ClockFull);
+        }
+        Ok(())
     }
 
     // A fresh core for this one.
     #[tactic(auto, unfolding(crate::specs::Calls::reset))]
-    pub fn reset(mut self) -> Core
+    pub fn reset(self) -> Core
         ensures { reset_gave result ≡ reset self }
     {
-        self = fresh();
-        self
+        fresh()
     }
 
     // A listing, checked and stored.
-    #[tactic(auto, unfolding(crate::specs::Calls::load))]
     pub fn load(self, text: &[u8], memory: &mut [u16]) -> LoadReply
         ensures { load_gave result memory.new ≡ load text.now self memory.old }
     {
-        let verdict = load_verdict(memory.len(), self.one_due());
-        if let Verdict::Refused(why) = verdict {
-            return LoadReply {
-                core: self,
-                answer: LoadAnswer::Refused(why),
-            };
-        }
-        LoadReply {
-            core: self,
-            answer: load_answer(listing::store(text, memory)),
-        }
+        let answer = self.loaded(text, memory);
+        Answered { core: self, answer }
+    }
+
+    #[tactic(auto, unfolding(crate::specs::Calls::load))]
+    fn loaded(self, text: &[u8], memory: &mut [u16]) -> Result<usize, ListingError>
+        ensures { load_gave (record { core = self; answer = result }) memory.new ≡ load text.now self memory.old }
+    {
+        load_verdict(memory.len(), self.one_due())?;
+        Ok(listing::store(text, memory)?)
     }
 
     // b datapath cycles, fewer if the core stops.
     pub fn run(mut self, b: u32, memory: &mut [u16]) -> RunReply
         ensures { run_gave result memory.new ≡ run b self memory.old }
     {
-        let stop = self.stop;
-        let clock = self.clock;
-        let verdict = run_verdict(memory.len(), stop, self.due_in_range(), clock, b);
-        if let Verdict::Refused(why) = verdict {
-            return self.run_refused(why);
-        }
+        let answer = self.ran(b, memory);
+        Answered { core: self, answer }
+    }
+
+    fn ran(&mut self, b: u32, memory: &mut [u16]) -> Result<Ran, Refusal>
+        ensures { run_gave (record { core = self.new; answer = result }) memory.new ≡ run b self.old memory.old }
+    {
+        self.run_verdict(memory.len(), self.due_in_range(), b)?;
         let mut used = Cycles(0);
         let mut finished = Instructions(0);
-        while used.0 < b && self.goes() {
+        while used.0 < b && is_going(self.stop) {
             let moved = self.instructions_or_cycle(b - used.0, memory);
             used.0 += moved.cycles.0;
             finished.0 += moved.instructions.0;
-            let next = moved.core;
-            self = next;
+            *self = moved.core;
         }
-        self.ran(used, finished)
+        Ok(Ran {
+            cycles: used,
+            instructions: finished,
+            end: self.end(),
+        })
     }
 
-    // One instruction by the instruction engine; the hidden registers become zero.
-    pub fn step(mut self, memory: &mut [u16]) -> RunReply
+    // One instruction by the instruction engine; the hidden registers become zero. The core stays by value: a step takes longer where it is lent.
+    pub fn step(self, memory: &mut [u16]) -> RunReply
         ensures { run_gave result memory.new ≡ step self memory.old }
     {
-        let stop = self.stop;
-        let clock = self.clock;
-        let verdict = run_verdict(memory.len(), stop, self.one_due(), clock, LONGEST);
-        if let Verdict::Refused(why) = verdict {
-            return self.run_refused(why);
+        if let Err(why) = self.run_verdict(memory.len(), self.one_due(), LONGEST) {
+            return Answered {
+                core: self,
+                answer: Err(why),
+            };
         }
         let one = self.instructions(1, LONGEST, memory);
-        let used = one.cycles;
-        let finished = one.instructions;
-        let next = one.core;
-        self = next;
-        self.without_hidden().ran(used, finished)
+        let core = one.core.without_hidden();
+        Answered {
+            core,
+            answer: Ok(Ran {
+                cycles: one.cycles,
+                instructions: one.instructions,
+                end: core.end(),
+            }),
+        }
     }
 
-    // All but the hidden registers; where it is refused, the snapshot is that of a fresh core.
-    #[tactic(auto, unfolding(crate::specs::Calls::view))]
+    // All but the hidden registers, of a core with cycle 1 due.
     pub fn view(self) -> ViewReply
-        ensures reply { view_gave result ≡ view self }
-        ensures snapshot { result.snapshot ≡ shown (cond (due_one self) self fresh_core) }
+        ensures { view_gave result ≡ view self }
     {
-        let verdict = view_verdict(self.one_due());
-        let other = fresh();
-        if let Verdict::Refused(why) = verdict {
-            return self.viewed(ViewAnswer::Refused(why), other);
+        let answer = self.viewed();
+        Answered { core: self, answer }
+    }
+
+    // A view is refused with 7 alone.
+    #[tactic(auto, unfolding(crate::specs::Calls::view, crate::specs::Numbers::view_number, refusals::specs::Refusals::first_number))]
+    fn viewed(self) -> Result<Snapshot, Refusal>
+        ensures { view_gave (record { core = self; answer = result }) ≡ view self }
+    {
+        if !self.one_due() {
+            return Err(Refusal::WrongCycle);
         }
-        self.viewed(ViewAnswer::Viewed, self)
+        Ok(self.snapshot())
     }
 }

@@ -1,4 +1,4 @@
--- The theorems `LengthExactly` and `FirstExactly` of specs/Theorems.antt, and laws for calls: what tests find, one at a time, and that a refusal has a number.
+-- The theorems `LengthExactly` and `FirstExactly` of specs/Theorems.antt, and laws for calls: what tests mean, one at a time, and that a refusal has a number.
 use mathlib.Core.Path.{◌≡◌, refl, sym, ap, ◌∙◌}
 use mathlib.Core.Logic.{◌↔◌, ◌⊎◌, inl, inr}
 use mathlib.Core.Bool.{Bool, true, false, cond}
@@ -7,11 +7,8 @@ use Prim.Native.Nat.{ℕ, suc, ◌<◌}
 use native.Mathlib.Omega.{arith}
 use borrow.Author.Tests.{ltb-true, eqb-true, eqb-false, lt-ltb}
 use lib.Dec.{eqb, ltb}
-use Rattle.refusals.specs.Refusals.{refusal_number, first_number, or_else}
-use Rattle.refusals.specs.Verdicts.{verdict_number, first_after}
+use Rattle.refusals.specs.Refusals.{refusal_number, first_number}
 use Rattle.refusals.specs.Theorems.{First, NoneApplies, Means, MeanAll, LengthExactly, FirstExactly}
-use Rattle.refusals.specs.declared.Verdict.{Verdict}
-use Rattle.refusals.specs.declared.Verdict.TheVariants as verdict
 use Rattle.refusals.specs.declared.Refusal.{Refusal}
 use Rattle.refusals.specs.declared.Refusal.TheVariants.{WrongLength, WrongCycle, Stopped, ClockFull, ShortText}
 
@@ -76,23 +73,6 @@ passed n applies rest e = ap (λ (b : Bool). cond b n (first_number rest)) e
 pub none_left : first_number [] ≡ 0
 unfolding first_number
 none_left = refl
-
--- one refusal more, in a chain and in a list
-pub asked : (v : Verdict) (why : Refusal) (applies : Bool) (r : Verdict) → r ≡ or_else v why applies → (rest : List (ℕ × Bool))
-    → first_after r rest ≡ first_after v ((refusal_number why, applies) ∷ rest)
-unfolding first_number
-asked v why applies r e rest = ap (λ (x : Verdict). first_after x rest) e ∙ by v applies
-  where
-    by : (v : Verdict) (applies : Bool) → first_after (or_else v why applies) rest ≡ first_after v ((refusal_number why, applies) ∷ rest)
-    by verdict.Taken true = refl
-    by verdict.Taken false = refl
-    by (verdict.Refused found) applies = refl
-
--- a verdict with no more to ask
-pub asked_all : (v : Verdict) → verdict_number v ≡ first_after v []
-unfolding first_number
-asked_all verdict.Taken = refl
-asked_all (verdict.Refused why) = refl
 
 -- 0 is no refusal's number
 pub has_number : (why : Refusal) → refusal_number why ≡ 0 → ⊥

@@ -1,10 +1,8 @@
 -- Document 01, 'Numbers from the input' and 'Numbers from the state': why a call is refused before it starts, by its number, and the first
 -- number that applies.
-use Rattle.std.specs.Prelude.{Bool, true, false, cond, List, [], ◌∷◌, ℕ, eqb, ltb}
+use Rattle.std.specs.Prelude.{Bool, true, cond, List, [], ◌∷◌, ℕ, eqb, ltb}
 use Rattle.refusals.specs.declared.Refusal.{Refusal}
 use Rattle.refusals.specs.declared.Refusal.TheVariants.{WrongLength, WrongCycle, Stopped, ClockFull, ShortText}
-use Rattle.refusals.specs.declared.Verdict.{Verdict}
-use Rattle.refusals.specs.declared.Verdict.TheVariants.{Taken, Refused}
 
 -- '1: L is 0 or above 65,536 ..', '7: cycle due is not 1 .., or outside 1 to 4 ..', '8: stopped ..', '9: clock plus b .. exceeds
 -- 4,294,967,295'; document 02, note 1: '10 when the lent text is shorter ..'
@@ -24,9 +22,3 @@ wrong_length L = cond (eqb L 0) true (ltb 65536 L)
 unfoldable pub first_number : List (ℕ × Bool) → ℕ
 first_number [] = 0
 first_number (x ∷ rest) = cond x.1 x.0 (first_number rest)
-
--- what is found before a call starts, and one refusal more to ask for: it is found where it applies and none was found before
-abbrev pub or_else : Verdict → Refusal → Bool → Verdict
-or_else Taken why true = Refused why
-or_else Taken why false = Taken
-or_else (Refused found) why applies = Refused found

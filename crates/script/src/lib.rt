@@ -136,8 +136,8 @@ fn read_listing(s: &[u8]) -> Command
     if s.len() < 5 || s[4] != b' ' {
         return Command::Unknown;
     }
-    match (u16::try_from(lines::front_number(s)), read_decimal(&s[5..])) {
-        (Ok(first), Some(count)) => Command::Listing { first, count },
+    match (lines::front_number(s), read_decimal(&s[5..])) {
+        (Some(first), Some(count)) => Command::Listing { first, count },
         _ => Command::Unknown,
     }
 }

@@ -1,8 +1,8 @@
 // The instruction table of document 01: which instruction a word is, and the word of each.
 #![tactic(auto)]
 
-ghost use Rattle.std.specs.Prelude.{◌≡◌, ◌<◌};
-ghost use Rattle.table.specs.Table.{place_of, kind_of, binary_entry, constant_entry, unary_entry, condition_rank, jump_entry, call_entry, entry, word_of};
+ghost use Rattle.std.specs.Prelude.{◌≡◌};
+ghost use Rattle.table.specs.Table.{place_of, kind_of, first_jump, call_entry, entry, word_of};
 
 use isa::{BinaryOp, Condition, ConstantOp, Kind, Target, UnaryOp};
 
@@ -15,31 +15,27 @@ fn place_of(word: u16) -> u8
     let o = isa::field_o(word);
     let b = isa::field_b(word);
     if o < 11 {
-        return o;
+        o
+    } else if o < 12 {
+        if b < 11 { 11 + b } else { 40 }
+    } else if o < 13 {
+        if b < 12 { 22 + b } else { 40 }
+    } else if o < 14 {
+        34
+    } else if o < 15 {
+        35 + (word / 1024 % 4) as u8
+    } else {
+        39
     }
-    if o < 12 {
-        return if b < 11 { 11 + b } else { 40 };
-    }
-    if o < 13 {
-        return if b < 12 { 22 + b } else { 40 };
-    }
-    if o < 14 {
-        return 34;
-    }
-    if o < 15 {
-        return 35 + (word / 1024 % 4) as u8;
-    }
-    39
 }
 
 // Which instruction a word is: the table, in the order of document 01. It is no constant array, which would be laid out anew at each
 // reading.
-#[tactic(auto, unfolding(crate::specs::Table::kind_of, crate::specs::Table::table))]
+#[tactic(auto, using(crate::proofs::Entries::found_past), unfolding(crate::specs::Table::kind_of, crate::specs::Table::table))]
 pub fn kind_of(word: u16) -> Kind
     ensures { result ≡ kind_of word }
 {
-    let place = place_of(word);
-    match place {
+    match place_of(word) {
         0 => Kind::Binary(BinaryOp::Add),
         1 => Kind::Binary(BinaryOp::Sub),
         2 => Kind::Binary(BinaryOp::And),
@@ -84,61 +80,13 @@ pub fn kind_of(word: u16) -> Kind
     }
 }
 
-fn binary_entry(op: BinaryOp) -> u8
-    ensures { result ≡ binary_entry op }
+fn first_jump(target: Target) -> u8
+    ensures { result ≡ first_jump target }
 {
-    match op {
-        BinaryOp::Add => 0,
-        BinaryOp::Sub => 1,
-        BinaryOp::And => 2,
-        BinaryOp::Or => 3,
-        BinaryOp::Xor => 4,
-    }
-}
-
-fn constant_entry(op: ConstantOp) -> u8
-    ensures { result ≡ constant_entry op }
-{
-    match op {
-        ConstantOp::Addi => 5,
-        ConstantOp::Subi => 6,
-        ConstantOp::Ldl => 7,
-        ConstantOp::Ldh => 8,
-    }
-}
-
-fn unary_entry(op: UnaryOp) -> u8
-    ensures { result ≡ unary_entry op }
-{
-    match op {
-        UnaryOp::Sl0 => 11,
-        UnaryOp::Sl1 => 12,
-        UnaryOp::Sr0 => 13,
-        UnaryOp::Sr1 => 14,
-        UnaryOp::Not => 15,
-    }
-}
-
-fn condition_rank(condition: Condition) -> u8
-    ensures { (result ≡ condition_rank condition) × (result < 5) }
-{
-    match condition {
-        Condition::Always => 0,
-        Condition::Negative => 1,
-        Condition::Zero => 2,
-        Condition::Carry => 3,
-        Condition::Overflow => 4,
-    }
-}
-
-fn jump_entry(condition: Condition, target: Target) -> u8
-    ensures { result ≡ jump_entry condition target }
-{
-    let rank = condition_rank(condition);
     match target {
-        Target::Relative => 22 + rank,
-        Target::Absolute => 27 + rank,
-        Target::Displaced => 34 + rank,
+        Target::Relative => 22,
+        Target::Absolute => 27,
+        Target::Displaced => 34,
     }
 }
 
@@ -158,18 +106,18 @@ pub fn entry_of(kind: Kind) -> u8
 {
     match kind {
         Kind::Undefined => 40,
-        Kind::Binary(op) => binary_entry(op),
-        Kind::Constant(op) => constant_entry(op),
+        Kind::Binary(op) => op as u8,
+        Kind::Constant(op) => 5 + op as u8,
         Kind::Ld => 9,
         Kind::St => 10,
-        Kind::Unary(op) => unary_entry(op),
+        Kind::Unary(op) => 11 + op as u8,
         Kind::Nop => 16,
         Kind::Halt => 17,
         Kind::Ldsp => 18,
         Kind::Rts => 19,
         Kind::Pop => 20,
         Kind::Push => 21,
-        Kind::Jump(condition, target) => jump_entry(condition, target),
+        Kind::Jump(condition, target) => first_jump(target) + condition as u8,
         Kind::Call(target) => call_entry(target),
     }
 }
@@ -180,21 +128,13 @@ pub fn entry_of(kind: Kind) -> u8
 pub fn word_of(place: u8) -> u16
     ensures { result ≡ word_of place }
 {
-    let n = place as u16;
-    if n < 11 {
-        return n * 0x1000;
+    let n = u16::from(place);
+    match n {
+        0..=10 => n * 0x1000,
+        11..=21 => 0xB000 + (n - 11),
+        22..=33 => 0xC000 + (n - 22),
+        34 => 0xD000,
+        35..=38 => 0xE000 + (n - 35) * 0x400,
+        _ => 0xF000,
     }
-    if n < 22 {
-        return 0xB000 + (n - 11);
-    }
-    if n < 34 {
-        return 0xC000 + (n - 22);
-    }
-    if n < 35 {
-        return 0xD000;
-    }
-    if n < 39 {
-        return 0xE000 + (n - 35) * 0x400;
-    }
-    0xF000
 }

@@ -2,7 +2,8 @@
 use mathlib.Core.Path.{◌≡◌, refl, sym, ap, ◌∙◌}
 use mathlib.Core.Bool.{Bool, true, false}
 use mathlib.Core.List.{List, ◌++◌}
-use Prim.Native.Nat.{ℕ, ◌+◌, ◌-◌, ◌*◌, ◌≤◌, ◌<◌}
+use Prim.Native.Nat.{ℕ, ◌+◌, ◌-◌, ◌*◌, ◌/◌, ◌≤◌, ◌<◌}
+use Rattle.std.specs.Prelude.{Result, Ok, Err}
 use native.Mathlib.Omega.{arith}
 use borrow.Author.Tests.{lt-ltb, le-ltb, ltb-true, ltb-false}
 use lib.Dec.{ltb}
@@ -12,31 +13,23 @@ use Rattle.listing.specs.Answers as lines-answer
 use Rattle.listing.specs.Answers.{fault_number}
 use Rattle.listing.specs.Listing.{Check, sound, faulty, memory_of, check_of, store_lines, listing_answer, listing_memory}
 use Rattle.listing.proofs.Stores.{length_lines}
-use Rattle.listing.specs.declared.Fault.{Fault}
-use Rattle.isa.specs.declared.Cycles.{Cycles}
 use Rattle.r8_core.specs.Cores.{fresh_core}
 use Rattle.refusals.specs.Refusals.{refusal_number, wrong_length, first_number}
 use Rattle.r8_core.specs.Numbers.{load_number, run_number}
 use Rattle.r8_core.specs.Spent.{due_one}
 use Rattle.r8_core.specs.Progress.{starting, cycles_on}
 use Rattle.r8_core.specs.Calls.{Answer, ran, refused, refused_at, Reply, load_answer, load, loaded_reply, ran_reply, run}
-use Rattle.r8_core.specs.declared.End.{End}
-use Rattle.r8_core.specs.Answers.{load_answer_of, load_gave, run_answer_of, run_gave}
+use Rattle.r8_core.specs.Answers.{LoadReply, RunReply, load_answer_of, load_gave, run_answer_of, run_gave}
 use Rattle.r8_core.specs.declared.Core.{Core}
-use Rattle.r8_core.specs.declared.LoadAnswer.{LoadAnswer}
-use Rattle.r8_core.specs.declared.LoadAnswer.TheVariants.{Stored, Refused, Faulty}
-use Rattle.r8_core.specs.declared.LoadReply.{LoadReply}
+use Rattle.r8_core.specs.declared.ListingError.{ListingError}
+use Rattle.r8_core.specs.declared.ListingError.TheVariants.{Refused, Faulty}
 use Rattle.refusals.specs.declared.Refusal.{Refusal}
-use Rattle.r8_core.specs.declared.Instructions.{Instructions}
-use Rattle.r8_core.specs.declared.RunAnswer.{RunAnswer}
-use Rattle.r8_core.specs.declared.RunAnswer.TheVariants.{Ran, Refused as Unrun}
-use Rattle.r8_core.specs.declared.RunReply.{RunReply}
+use Rattle.r8_core.specs.declared.Ran.{Ran}
 use Rattle.r8_core.proofs.Taken.{reply_own}
 use Rattle.refusals.proofs.First.{passed, none_left}
 use Rattle.r8_core.proofs.Replies.{run_starts}
-use Rattle.trace.specs.Trace.{instructions_of, Finding, Trace, answered, too_long, no_room, rows_of, trace_of, traced_on, after_load, traced, finding_of, trace_gave}
-use Rattle.trace.specs.declared.TraceAnswer.{TraceAnswer}
-use Rattle.trace.specs.declared.TraceAnswer.TheVariants.{Traced}
+use Rattle.trace.specs.Trace.{instructions_of, Finding, Trace, answered, too_long, no_room, rows_of, trace_of, traced_on, after_load, traced, finding_of, error_of, trace_gave}
+use Rattle.trace.specs.declared.TraceError.{TraceError}
 
 -- a run of a fresh core on 16,384 words is taken
 pub fresh_run : (t : ℕ) (memory : List ℕ) → length memory ≡ 16384 → t ≤ 1000
@@ -55,7 +48,7 @@ module _ (memory rows : List ℕ) (reply : RunReply) (core : Core) (after : List
   answer : run_answer_of reply.answer ≡ (run 1000 fresh_core memory).answer
   answer = ap (λ (x : Reply). x.answer) e ∙ ap (λ (x : Core). (run 1000 x memory).answer) fresh
 
-  pub run_not_refused : (why : Refusal) → length memory ≡ 16384 → reply.answer ≡ Unrun why → ⊥
+  pub run_not_refused : (why : Refusal) → length memory ≡ 16384 → reply.answer ≡ Err why → ⊥
   run_not_refused why size a =
       let own = ap (λ (x : Reply). x.answer) (fresh_run 1000 memory size (omega arith)) in
       let refused = ap run_answer_of a in
@@ -63,29 +56,26 @@ module _ (memory rows : List ℕ) (reply : RunReply) (core : Core) (after : List
       let z : ◌≡◌ {A = ℕ} 0 1 = cc in
       omega arith
 
-  abbrev by_run : RunAnswer → Trace
+  abbrev by_run : Result Ran Refusal → Trace
   by_run answer = trace_of (run_answer_of answer) memory rows
 
-  ran_trace : (cycles : Cycles) (instructions : Instructions) (end : End) → reply.answer ≡ Ran cycles instructions end
-      → trace_of (ran cycles.0 instructions.0 end) memory rows ≡ traced_on memory rows
+  ran_trace : (r : Ran) → reply.answer ≡ Ok r → trace_of (ran r.cycles.0 r.instructions.0 r.end) memory rows ≡ traced_on memory rows
   unfolding traced_on
-  ran_trace cycles instructions end a = sym (ap by_run a) ∙ ap (λ (x : Answer). trace_of x memory rows) answer
+  ran_trace r a = sym (ap by_run a) ∙ ap (λ (x : Answer). trace_of x memory rows) answer
 
-  pub room_lacks : (cycles : Cycles) (instructions : Instructions) (end : End) → reply.answer ≡ Ran cycles instructions end
-      → length rows < 4 * instructions.0 → record { finding = no_room; rows = rows } ≡ traced_on memory rows
-  room_lacks cycles instructions end a h =
-      sym (rw (lt-ltb (length rows) (4 * instructions.0) h)) ∙ ran_trace cycles instructions end a
+  pub room_lacks : (r : Ran) → reply.answer ≡ Ok r → length rows / 4 < r.instructions.0
+      → record { finding = no_room; rows = rows } ≡ traced_on memory rows
+  room_lacks r a h = sym (rw (lt-ltb (length rows) (4 * r.instructions.0) (omega arith))) ∙ ran_trace r a
 
-  pub rows_put : (cycles : Cycles) (instructions : Instructions) (end : End) → reply.answer ≡ Ran cycles instructions end
-      → (next : List ℕ) → 4 * instructions.0 ≤ length rows
-      → next ≡ rows_of instructions.0 core memory ++ drop (4 * instructions.0) rows
-      → record { finding = answered (ran cycles.0 instructions.0 end); rows = next } ≡ traced_on memory rows
-  rows_put cycles instructions end a next h put =
-      let n = instructions.0 in
+  pub rows_put : (r : Ran) → reply.answer ≡ Ok r → (next : List ℕ) → r.instructions.0 ≤ length rows / 4
+      → next ≡ rows_of r.instructions.0 core memory ++ drop (4 * r.instructions.0) rows
+      → record { finding = answered (ran r.cycles.0 r.instructions.0 r.end); rows = next } ≡ traced_on memory rows
+  rows_put r a next h put =
+      let n = r.instructions.0 in
       let whole = put ∙ ap (λ (x : Core). rows_of n x memory ++ drop (4 * n) rows) fresh in
-      (λ j. record { finding = answered (ran cycles.0 n end); rows = whole j })
-      ∙ sym (rw (le-ltb (length rows) (4 * n) h))
-      ∙ ran_trace cycles instructions end a
+      (λ j. record { finding = answered (ran r.cycles.0 n r.end); rows = whole j })
+      ∙ sym (rw (le-ltb (length rows) (4 * n) (omega arith)))
+      ∙ ran_trace r a
 
 -- a load of a fresh core comes to its lines, which are refused with an offset or not at all
 load_taken : (listing : List ℕ)
@@ -122,21 +112,21 @@ module _ (listing rows : List ℕ) (h : length listing ≤ 65536) (reply : LoadR
   unfolding traced
   by_load = ap (λ (x : Reply). after_load x rows) loaded ∙ rw (le-ltb 65536 (length listing) h)
 
-  abbrev by_answer : LoadAnswer → Trace
+  abbrev by_answer : Result ℕ ListingError → Trace
   by_answer answer = after_load (record { answer = load_answer_of answer; core = reply.core; memory = memory }) rows
 
-  pub stored_trace : (count : ℕ) → reply.answer ≡ Stored count → traced_on memory rows ≡ traced listing rows
+  pub stored_trace : (count : ℕ) → reply.answer ≡ Ok count → traced_on memory rows ≡ traced listing rows
   stored_trace count a = sym (ap by_answer a) ∙ by_load
 
-  pub faulty_trace : (fault : Fault) (offset : ℕ) → reply.answer ≡ Faulty fault offset
-      → record { finding = answered (refused_at (fault_number fault) offset); rows = rows } ≡ traced listing rows
-  faulty_trace fault offset a = sym (ap by_answer a) ∙ by_load
-
-  pub load_not_refused : (why : Refusal) → reply.answer ≡ Refused why → ⊥
+  load_not_refused : (why : Refusal) → reply.answer ≡ Err (Refused why) → ⊥
   load_not_refused why a =
       let own = ap (λ (x : Reply). x.answer) (load_taken listing) in
       let said = ap (λ (x : Reply). x.answer) loaded in
       never (refusal_number why) (listing_answer listing (length (replicate {A = ℕ} 16384 0))) (sym own ∙ sym said ∙ ap load_answer_of a)
+
+  pub ended_trace : (why : ListingError) → reply.answer ≡ Err why → trace_gave (Err (error_of why)) rows ≡ traced listing rows
+  ended_trace (Faulty at) a = sym (ap by_answer a) ∙ by_load
+  ended_trace (Refused why) a = absurd (load_not_refused why a)
 
 -- a finding is one of these: too long, a fault of the lines, or what a run on the loaded memory finds, without room or with
 module _ (P : Finding → Type 0) (listing rows : List ℕ) (long : P too_long)
@@ -168,13 +158,13 @@ module _ (P : Finding → Type 0) (listing rows : List ℕ) (long : P too_long)
   by_cases = by_length (ltb 65536 (length listing)) refl
 
 -- where totals are answered there was room for the rows
-pub room_held : (listing rows next : List ℕ) (answer : TraceAnswer) (cycles : Cycles) (instructions : Instructions) (end : End)
-    → trace_gave answer next ≡ traced listing rows → answer ≡ Traced cycles instructions end → 4 * instructions.0 ≤ length rows
-room_held listing rows next answer cycles instructions end e a =
-    by_cases (λ f. f ≡ answered (ran cycles.0 instructions.0 end) → 4 * instructions.0 ≤ length rows) listing rows
+pub room_held : (listing rows next : List ℕ) (answer : Result Ran TraceError) (r : Ran)
+    → trace_gave answer next ≡ traced listing rows → answer ≡ Ok r → 4 * r.instructions.0 ≤ length rows
+room_held listing rows next answer r e a =
+    by_cases (λ f. f ≡ answered (ran r.cycles.0 r.instructions.0 r.end) → 4 * r.instructions.0 ≤ length rows) listing rows
     (λ f. absurd (let z : ◌≡◌ {A = ℕ} 0 1 = cc in omega arith))
     (λ number offset short said f. absurd (let z : ◌≡◌ {A = ℕ} 0 1 = cc in omega arith))
     (λ memory size h f. absurd (let z : ◌≡◌ {A = ℕ} 0 1 = cc in omega arith))
-    (λ memory size h f. let same : (run 1000 fresh_core memory).answer ≡ ran cycles.0 instructions.0 end = cc in
+    (λ memory size h f. let same : (run 1000 fresh_core memory).answer ≡ ran r.cycles.0 r.instructions.0 r.end = cc in
     omega (arith, h, ap instructions_of same))
     (sym (ap (λ (t : Trace). t.finding) e) ∙ ap finding_of a)

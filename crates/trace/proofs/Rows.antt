@@ -1,28 +1,17 @@
 -- Laws of rows: four numbers stored in their place, and one row more of a trace under way.
 use mathlib.Core.Path.{◌≡◌, refl, sym, ap, ◌∙◌}
-use mathlib.Core.List.{List, [], ◌∷◌, ◌++◌, append_assoc, append-nil}
-use Prim.Native.Nat.{ℕ, zero, suc, ◌+◌, ◌-◌, ◌*◌, ◌≤◌, ◌<◌}
+use mathlib.Core.List.{List, ◌++◌, append_assoc, append-nil}
+use Prim.Native.Nat.{ℕ, suc, ◌+◌, ◌-◌, ◌*◌, ◌≤◌, ◌<◌}
 use native.Mathlib.Omega.{arith}
-use native.Mathlib.Nat.{zero-add}
-use lib.ListN.{length, take, drop, set, length-append, take-append-drop}
-use lib.Seq.{sets-eq, length-take-le, take_at, drop_at, drop-drop}
-use Rattle.words.specs.Memory.{word_at}
+use lib.ListN.{length, take, drop, length-append, take-append-drop}
+use lib.Seq.{length-take-le, take_at, drop_at, drop-drop}
 use Rattle.r8_core.specs.Calls.{Reply, step}
 use Rattle.r8_core.specs.declared.Core.{Core}
-use Rattle.layout.specs.Layout.{flags_number}
-use Rattle.trace.specs.Trace.{cycles_of, row_of, rows_of}
+use Rattle.trace.specs.Trace.{row_of, rows_of}
 
 -- rows with one written over, from a place on
 abbrev pub written : ℕ → List ℕ → List ℕ → List ℕ
 written at row rows = take at rows ++ row ++ drop (at + 4) rows
-
-pub four_stored : (rows : List ℕ) (at a w c f : ℕ) → at + 4 ≤ length rows
-    → set (set (set (set rows at a) (at + 1) w) (at + 2) c) (at + 3) f ≡ written at (a ∷ w ∷ c ∷ f ∷ []) rows
-four_stored rows at a w c f h =
-    let one : at + 1 ≡ suc at = omega arith in
-    let two : at + 2 ≡ suc (suc at) = omega arith in
-    let three : at + 3 ≡ suc (suc (suc at)) = omega arith in
-    (λ j. set (set (set (set rows at a) (one j) w) (two j) c) (three j) f) ∙ sets-eq (a ∷ w ∷ c ∷ f ∷ []) rows at h
 
 -- what was put before a place stays there, and so does what stands after the row
 module _ (at : ℕ) (row rows : List ℕ) (four : length row ≡ 4) (room : at + 4 ≤ length rows) where
@@ -45,10 +34,6 @@ module _ (at : ℕ) (row rows : List ℕ) (four : length row ≡ 4) (room : at +
 abbrev pub under : ℕ → ℕ → Core → List ℕ → List ℕ → List ℕ
 under at left core memory rows = take at rows ++ rows_of left core memory ++ drop (at + 4 * left) rows
 
--- its start and its end
-pub no_row_yet : (n : ℕ) (core : Core) (memory rows : List ℕ) → rows_of n core memory ++ drop (4 * n) rows ≡ under 0 n core memory rows
-no_row_yet n core memory rows = ap (λ (k : ℕ). rows_of n core memory ++ drop k rows) (sym (zero-add (4 * n)))
-
 pub no_row_left : (at left : ℕ) (core : Core) (memory rows : List ℕ) → left ≡ 0 → under at left core memory rows ≡ rows
 unfolding rows_of
 no_row_left at left core memory rows e =
@@ -58,28 +43,35 @@ no_row_left at left core memory rows e =
     ∙ take-append-drop at rows
 
 -- one row more
-more : (n at : ℕ) (core : Core) (memory rows : List ℕ) (stepped : Reply) → at + 4 * suc n ≤ length rows → stepped ≡ step core memory
-    → under at (suc n) core memory rows
-    ≡ under (at + 4) n stepped.core stepped.memory (written at (row_of core memory stepped) rows)
+more : (n at : ℕ) (core : Core) (memory rows : List ℕ) → at + 4 * suc n ≤ length rows
+    → let stepped : Reply = step core memory in
+    under at (suc n) core memory rows ≡ under (at + 4) n stepped.core stepped.memory (written at (row_of core memory stepped) rows)
 unfolding rows_of
-more n at core memory rows stepped room e =
+more n at core memory rows room =
+    let stepped = step core memory in
     let row = row_of core memory stepped in
     let rest = rows_of n stepped.core stepped.memory in
     let place : at + 4 * suc n ≡ at + 4 + 4 * n = omega arith in
     let before = written_before at row rows refl (omega arith) in
     let after = written_after at row rows refl (omega arith) (4 * n) in
-    ap (λ (r : Reply). take at rows ++ (row_of core memory r ++ rows_of n r.core r.memory) ++ drop (at + 4 * suc n) rows) (sym e)
-    ∙ ap (λ (k : ℕ). take at rows ++ (row ++ rest) ++ drop k rows) place
+    ap (λ (k : ℕ). take at rows ++ (row ++ rest) ++ drop k rows) place
     ∙ ap (λ (l : List ℕ). l ++ drop (at + 4 + 4 * n) rows) (sym (append_assoc (take at rows) row rest))
     ∙ sym (λ j. before j ++ rest ++ after j)
 
-pub one_row : (left at : ℕ) (core : Core) (memory rows : List ℕ) (stepped : Reply) (word cycles flags : ℕ) (next : List ℕ)
-    → 0 < left → at + 4 * left ≤ length rows → stepped ≡ step core memory → word ≡ word_at memory core.pc
-    → cycles ≡ cycles_of stepped.answer → flags ≡ flags_number stepped.core.flags
-    → next ≡ written at (core.pc ∷ word ∷ cycles ∷ flags ∷ []) rows
-    → under at left core memory rows ≡ under (at + 4) (left - 1) stepped.core stepped.memory next
-one_row zero at core memory rows stepped word cycles flags next some room s w c f e = absurd (omega arith)
-one_row (suc n) at core memory rows stepped word cycles flags next some room s w c f e =
-    let now : next ≡ written at (row_of core memory stepped) rows = e ∙ (λ j. written at (core.pc ∷ w j ∷ c j ∷ f j ∷ []) rows) in
-    let less : suc n - 1 ≡ n = omega arith in
-    more n at core memory rows stepped room s ∙ sym (λ j. under (at + 4) (less j) stepped.core stepped.memory (now j))
+-- and as the loop puts it
+pub one_row : (count i : ℕ) (core next : Core) (memory words rows row : List ℕ) → i < count → 4 * count ≤ length rows
+    → let stepped : Reply = step core memory in
+    (row ≡ row_of core memory stepped) × (next ≡ stepped.core) × (words ≡ stepped.memory)
+    → under (4 * i) (count - i) core memory rows
+    ≡ under (4 * (i + 1)) (count - (i + 1)) next words (take (4 * i) rows ++ (row ++ drop (4 * (i + 1) - 4 * i) (drop (4 * i) rows)))
+one_row count i core next memory words rows row some room e =
+    let left : count - i ≡ suc (count - (i + 1)) = omega arith in
+    let place : 4 * i + 4 ≡ 4 * (i + 1) = omega arith in
+    let four : 4 * (i + 1) - 4 * i ≡ 4 = omega arith in
+    let behind : drop (4 * (i + 1) - 4 * i) (drop (4 * i) rows) ≡ drop (4 * i + 4) rows =
+    ap (λ (n : ℕ). drop n (drop (4 * i) rows)) four ∙ drop-drop 4 (4 * i) rows in
+    let now : take (4 * i) rows ++ (row ++ drop (4 * (i + 1) - 4 * i) (drop (4 * i) rows)) ≡ written (4 * i) (row_of core memory (step core memory)) rows =
+    (λ j. take (4 * i) rows ++ (e.0 j ++ behind j)) ∙ sym (append_assoc (take (4 * i) rows) _ (drop (4 * i + 4) rows)) in
+    ap (λ (n : ℕ). under (4 * i) n core memory rows) left
+    ∙ more (count - (i + 1)) (4 * i) core memory rows (omega arith)
+    ∙ sym (λ j. under (sym place j) (count - (i + 1)) (e.1 j) (e.2 j) (now j))

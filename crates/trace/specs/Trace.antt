@@ -1,13 +1,16 @@
 -- Document 01, 'Proof bench', program `r8trace`: what is found of a listing, as numbers.
-use Rattle.std.specs.Prelude.{Bool, true, false, cond, List, [], ◌∷◌, ◌++◌, ℕ, zero, suc, ◌*◌, ltb, length, drop, replicate}
+use Rattle.std.specs.Prelude.{Bool, true, false, cond, List, [], ◌∷◌, ◌++◌, ℕ, zero, suc, ◌*◌, ltb, length, drop, replicate, Result, Ok, Err}
 use Rattle.words.specs.Memory.{word_at}
 use Rattle.listing.specs.Answers.{fault_number}
 use Rattle.r8_core.specs.Cores.{fresh_core}
 use Rattle.r8_core.specs.Calls.{Answer, done, stored, ran, viewed, refused, refused_at, Reply, load, run, step}
 use Rattle.r8_core.specs.declared.Core.{Core}
 use Rattle.layout.specs.Layout.{flags_number}
-use Rattle.trace.specs.declared.TraceAnswer.{TraceAnswer}
-use Rattle.trace.specs.declared.TraceAnswer.TheVariants.{Traced, Faulty, TooLong, NoRoom}
+use Rattle.r8_core.specs.declared.Ran.{Ran}
+use Rattle.trace.specs.declared.TraceError.{TraceError}
+use Rattle.trace.specs.declared.TraceError.TheVariants.{Faulty, TooLong, NoRoom}
+use Rattle.r8_core.specs.declared.ListingError.{ListingError}
+use Rattle.r8_core.specs.declared.ListingError.TheVariants as listing_error
 
 -- the cycles and the instructions of an answer to a run or a step; of another answer, none
 abbrev pub cycles_of : Answer → ℕ
@@ -83,11 +86,16 @@ traced listing rows =
 
 -- what the code gives back, read so. It has cases for the refusals of lines alone: that it is what `traced` says means that no other
 -- refusal arises
-abbrev pub finding_of : TraceAnswer → Finding
-finding_of (Traced cycles instructions end) = answered (ran cycles.0 instructions.0 end)
-finding_of (Faulty fault offset) = answered (refused_at (fault_number fault) offset)
-finding_of TooLong = too_long
-finding_of NoRoom = no_room
+abbrev pub finding_of : Result Ran TraceError → Finding
+finding_of (Ok r) = answered (ran r.cycles.0 r.instructions.0 r.end)
+finding_of (Err (Faulty at)) = answered (refused_at (fault_number at.fault) at.offset)
+finding_of (Err TooLong) = too_long
+finding_of (Err NoRoom) = no_room
 
-abbrev pub trace_gave : TraceAnswer → List ℕ → Trace
+-- why a listing that is not loaded is not traced: its fault; that nothing else comes of a load is what `traced` says
+abbrev pub error_of : ListingError → TraceError
+error_of (listing_error.Faulty at) = Faulty at
+error_of (listing_error.Refused why) = TooLong
+
+abbrev pub trace_gave : Result Ran TraceError → List ℕ → Trace
 trace_gave answer rows = record { finding = finding_of answer; rows = rows }

@@ -10,8 +10,7 @@ ghost use Rattle.words.specs.Arithmetic.{sum, difference, conjunction, disjuncti
 pub fn read(memory: &[u16], x: u16) -> u16
     ensures { result ≡ word_at memory.now x }
 {
-    let i = x as usize;
-    if i < memory.len() { memory[i] } else { 0 }
+    memory.get(usize::from(x)).copied().unwrap_or(0)
 }
 
 // The word stored at an address, or lost at or past the end. The libraries write memory through this alone: by the stores of cycles and
@@ -19,7 +18,7 @@ pub fn read(memory: &[u16], x: u16) -> u16
 pub fn write(memory: &mut [u16], x: u16, v: u16)
     ensures { memory.new ≡ stored memory.old x v }
 {
-    let i = x as usize;
+    let i = usize::from(x);
     if i < memory.len() {
         memory[i] = v;
     }
@@ -28,27 +27,30 @@ pub fn write(memory: &mut [u16], x: u16, v: u16)
 pub fn add(p: u16, q: u16) -> u16
     ensures { result ≡ sum p q }
 {
-    std::num::wrapping_add_u16(p, q)
+    p.wrapping_add(q)
 }
 
 pub fn subtract(p: u16, q: u16) -> u16
     ensures { result ≡ difference p q }
 {
-    std::num::wrapping_sub_u16(p, q)
+    p.wrapping_sub(q)
 }
 
+#[tactic(auto, unfolding(crate::specs::Arithmetic::conjunction))]
 pub fn and(p: u16, q: u16) -> u16
     ensures { result ≡ conjunction p q }
 {
     p & q
 }
 
+#[tactic(auto, unfolding(crate::specs::Arithmetic::disjunction))]
 pub fn or(p: u16, q: u16) -> u16
     ensures { result ≡ disjunction p q }
 {
     p | q
 }
 
+#[tactic(auto, unfolding(crate::specs::Arithmetic::exclusive))]
 pub fn xor(p: u16, q: u16) -> u16
     ensures { result ≡ exclusive p q }
 {
@@ -65,14 +67,12 @@ pub fn not(p: u16) -> u16
 pub fn shift_left(p: u16, enters: bool) -> u16
     ensures { result ≡ left p enters }
 {
-    let moved = p % 32768 * 2;
-    if enters { moved + 1 } else { moved }
+    (p << 1) + u16::from(enters)
 }
 
 // Right by one; the bit enters above.
 pub fn shift_right(p: u16, enters: bool) -> u16
     ensures { result ≡ right p enters }
 {
-    let moved = p / 2;
-    if enters { 32768 + moved } else { moved }
+    (u16::from(enters) << 15) + (p >> 1)
 }

@@ -1,5 +1,6 @@
 use Rattle.std.proofs.Common.{◌≤◌}
 use Rattle.all_words.proofs.count_all.Given as goal
 
-abbrev pub invariant-loop-i : goal.invariant-loop-i
-invariant-loop-i l = (l.defined ≤ l.i) × (l.undefined ≤ l.i) × (l.unchanged ≤ l.i) × (l.refused ≤ l.i)
+abbrev pub invariant-loop-word : goal.invariant-loop-word
+invariant-loop-word l =
+    (l.counts.defined ≤ l.word) × (l.counts.undefined ≤ l.word) × (l.counts.unchanged ≤ l.word) × (l.counts.refused ≤ l.word)

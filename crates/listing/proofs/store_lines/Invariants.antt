@@ -1,13 +1,13 @@
--- Storing the rest of the lines into the memory reached is storing all into the first.
-use Rattle.std.proofs.Common.{◌≡◌, ◌+◌, ◌≤◌, ◌-◌, length, drop}
+-- Storing the lines that are left into the memory reached is storing all into the first.
+use Rattle.std.proofs.Common.{◌≡◌}
 use Rattle.lines.specs.Lines.{lines}
+use Rattle.lines.specs.Walk.{lines_left}
 use Rattle.listing.specs.Listing.{store_lines}
+use Rattle.listing.proofs.Turns.{stores}
 use Rattle.listing.proofs.store_lines.Given as goal
 
-abbrev pub invariant-loop-at : goal.invariant-loop-at
-invariant-loop-at l =
-    (store_lines (lines l.listing) l.fn.memory ≡ store_lines (lines (drop l.at l.listing)) l.memory)
-    × (l.at ≤ length l.listing + 1)
-
-abbrev pub decreases-loop-at : goal.decreases-loop-at
-decreases-loop-at l = length l.listing + 1 - l.at
+abbrev pub invariant-loop-line : goal.invariant-loop-line
+invariant-loop-line l =
+    (goal.iterator-loop-line).can_next l.line-iterator
+    × (goal.iterator-loop-line).is_finite l.line-iterator
+    × (store_lines (lines l.listing) l.fn.memory ≡ stores (lines_left l.line-iterator) l.memory)

@@ -1,30 +1,21 @@
 -- By the listing's length, then by the load's answer.
 use Rattle.std.proofs.Common.{◌∙◌}
-use Rattle.trace.proofs.Findings.{long_trace, stored_trace, faulty_trace, load_not_refused}
+use Rattle.std.specs.Prelude.{Err}
+use Rattle.trace.specs.Trace.{trace_gave}
+use Rattle.trace.proofs.Findings.{long_trace, stored_trace, ended_trace}
 use Rattle.trace.proofs.trace.Goals as goal
 
 pub returns-then-listing-gt65536 : goal.returns-then-listing-gt65536
 returns-then-listing-gt65536 c = long_trace c.args.listing.now c.args.rows.now c.if-listing-gt65536.true
 
-pub returns-in-Stored : goal.returns-in-Stored
-returns-in-Stored c =
+pub returns-in-Ok : goal.returns-in-Ok
+returns-in-Ok c =
     let a = c.args in
-    let load = c.load-answer in
-    let fresh = c.fresh in
     c.trace_memory.ensures
-    ∙ stored_trace a.listing.now a.rows.now c.if-listing-gt65536.false load.result fresh.result _ load.ensures fresh.ensures _ c.in-Stored.is
+    ∙ stored_trace a.listing.now a.rows.now c.if-listing-gt65536.false c.load.result c.fresh.result _ c.load.ensures c.fresh.ensures _ c.in-Ok.is
 
-pub returns-in-Faulty : goal.returns-in-Faulty
-returns-in-Faulty c =
+pub returns-in-Err : goal.returns-in-Err
+returns-in-Err c =
     let a = c.args in
-    let load = c.load-answer in
-    let fresh = c.fresh in
-    faulty_trace a.listing.now a.rows.now c.if-listing-gt65536.false load.result fresh.result _ load.ensures fresh.ensures _ _ c.in-Faulty.is
-
-pub returns-in-Refused : goal.returns-in-Refused
-returns-in-Refused c =
-    let a = c.args in
-    let load = c.load-answer in
-    let fresh = c.fresh in
-    absurd
-    (load_not_refused a.listing.now a.rows.now c.if-listing-gt65536.false load.result fresh.result _ load.ensures fresh.ensures _ c.in-Refused.is)
+    (λ j. trace_gave (Err (c.error_of.ensures j)) a.rows.now)
+    ∙ ended_trace a.listing.now a.rows.now c.if-listing-gt65536.false c.load.result c.fresh.result _ c.load.ensures c.fresh.ensures _ c.in-Err.is
