@@ -10,7 +10,6 @@ use lib.Dec.{leb}
 use lib.ListN.{length, get_or, take, drop}
 use lib.Seq.{drop-cons}
 use Rattle.std.specs.Prelude.{Option, Some, None, unwrap_or, position, nat_lt}
-use Rattle.std.specs.Char.{is_ascii_digit}
 use Rattle.std.proofs.lemmas.List.{get_or-take, length-take}
 use Rattle.std.proofs.lemmas.List.Sums.{prefix_len-le-length, prefix_len_passes}
 use Rattle.std.specs.List.{prefix_len, position_or_len}
@@ -25,9 +24,13 @@ digit_range b = by (leb 48 b) refl (leb b 57) refl where
   by true p false q e = let z : ◌≡◌ {A = ℕ} 0 1 = cc in absurd (omega arith)
   by false p q r e = let z : ◌≡◌ {A = ℕ} 0 1 = cc in absurd (omega arith)
 
+-- a value with one digit more
+abbrev grown : ℕ → ℕ → ℕ
+grown n b = n * 10 + (b - 48)
+
 module _ (n : ℕ) (s : List ℕ) (i : ℕ) where
-  pub digit_read : i < length s → is_digit (get_or s i 0) ≡ true
-      → decimal_from n (drop i s) ≡ decimal_from (n * 10 + (get_or s i 0 - 48)) (drop (i + 1) s)
+  digit_read : i < length s → is_digit (get_or s i 0) ≡ true
+      → decimal_from n (drop i s) ≡ decimal_from (grown n (get_or s i 0)) (drop (i + 1) s)
   unfolding decimal_from
   digit_read h d = rw (add-one, drop-cons s i 0 h, d)
 
@@ -73,35 +76,32 @@ no_value n ended h = rw (lt-leb n 4294967295 h)
 pub too_large : (n : ℕ) (t : List ℕ) → 4294967295 < n → decimal_from n t ≡ None
 unfolding decimal_from
 too_large n [] h = no_value n true h
-too_large n (b ∷ t) h = by (is_digit b) (too_large (n * 10 + (b - 48)) t (omega arith)) where
-  by : (d : Bool) → decimal_from (n * 10 + (b - 48)) t ≡ None
-      → cond d (decimal_from (n * 10 + (b - 48)) t) (value_of n (ends (b ∷ t))) ≡ None
+too_large n (b ∷ t) h = by (is_digit b) (too_large (grown n b) t (omega arith)) where
+  by : (d : Bool) → decimal_from (grown n b) t ≡ None
+      → cond d (decimal_from (grown n b) t) (value_of n (ends (b ∷ t))) ≡ None
   by true e = e
   by false e = no_value n (ends (b ∷ t)) h
 
 -- how many digits stand at the front, as the library finds the first byte that is none
-pub digits_counted : (s : List ℕ) → unwrap_or (position (λ b. not (is_ascii_digit b)) s) (length s) ≡ prefix_len is_digit s
-unfolding is_digit
+pub digits_counted : (s : List ℕ) → unwrap_or (position (λ b. not (is_digit b)) s) (length s) ≡ prefix_len is_digit s
 digits_counted s = by (nat_lt (position_or_len other s) (length s)) refl ∙ same
   where
     other : ℕ → Bool
-    other b = not (is_ascii_digit b)
+    other b = not (is_digit b)
 
-    twice : (b : ℕ) → not (not (is_ascii_digit b)) ≡ is_digit b
-    twice b = each (is_ascii_digit b) where
-      each : (d : Bool) → not (not d) ≡ d
-      each true = refl
-      each false = refl
+    twice : (d : Bool) → not (not d) ≡ d
+    twice true = refl
+    twice false = refl
 
     same : position_or_len other s ≡ prefix_len is_digit s
-    same j = prefix_len (λ b. twice b j) s
+    same j = prefix_len (λ b. twice (is_digit b) j) s
 
     by : (t : Bool) → nat_lt (position_or_len other s) (length s) ≡ t
         → unwrap_or (cond t (Some (position_or_len other s)) None) (length s) ≡ position_or_len other s
     by true t = refl
     by false t = omega (arith, prefix_len-le-length (λ b. not (other b)) s, ltb-false _ _ t)
 
-pub digits_within : (s : List ℕ) → unwrap_or (position (λ b. not (is_ascii_digit b)) s) (length s) ≤ length s
+pub digits_within : (s : List ℕ) → unwrap_or (position (λ b. not (is_digit b)) s) (length s) ≤ length s
 digits_within s = rw (digits_counted s) (prefix_len-le-length is_digit s)
 
 skip : (k b : ℕ) (t : List ℕ) → drop (1 + k) (b ∷ t) ≡ drop k t
@@ -123,10 +123,10 @@ digits_over n (b ∷ t) = by (is_digit b) refl (digits_over n t) where
 no_end : (n : ℕ) (s : List ℕ) → ends (drop (prefix_len is_digit s) s) ≡ false → decimal_from n s ≡ None
 unfolding decimal_from after_spaces
 no_end n [] e = let z : ◌≡◌ {A = ℕ} 0 1 = cc in absurd (omega arith)
-no_end n (b ∷ t) e = by (is_digit b) (no_end (n * 10 + (b - 48)) t) e where
-  by : (d : Bool) → (ends (drop (prefix_len is_digit t) t) ≡ false → decimal_from (n * 10 + (b - 48)) t ≡ None)
+no_end n (b ∷ t) e = by (is_digit b) (no_end (grown n b) t) e where
+  by : (d : Bool) → (ends (drop (prefix_len is_digit t) t) ≡ false → decimal_from (grown n b) t ≡ None)
       → ends (drop (cond d (1 + prefix_len is_digit t) 0) (b ∷ t)) ≡ false
-      → cond d (decimal_from (n * 10 + (b - 48)) t) (value_of n (ends (b ∷ t))) ≡ None
+      → cond d (decimal_from (grown n b) t) (value_of n (ends (b ∷ t))) ≡ None
   by true ih e = ih (ap ends (sym (skip (prefix_len is_digit t) b t)) ∙ e)
   by false ih e = not_ended n (ends (b ∷ t)) e
 
@@ -165,14 +165,14 @@ module _ (s : List ℕ) {n : ℕ} (count : n ≡ prefix_len is_digit s) (value i
     pub from_zero : 48 ≤ get_or (take n s) i 0
     from_zero = (digit_range _ digit_here).0
 
-    further : decimal_of s ≡ decimal_from (value * 10 + (get_or (take n s) i 0 - 48)) (drop (i + 1) s)
+    further : decimal_of s ≡ decimal_from (grown value (get_or (take n s) i 0)) (drop (i + 1) s)
     further = so_far ∙ rw (get_or-take n s i 0 in_digits) (digit_read value s i is_there (rw (get_or-take n s i 0 in_digits) at digit_here))
 
-    pub one_further : (v : ℕ) → value_of (value * 10 + (get_or (take n s) i 0 - 48)) true ≡ Some v
+    pub one_further : (v : ℕ) → value_of (grown value (get_or (take n s) i 0)) true ≡ Some v
         → (decimal_of s ≡ decimal_from v (drop (i + 1) s)) × (v ≤ 4294967295)
     one_further v e = (further ∙ ap (λ (k : ℕ). decimal_from k (drop (i + 1) s)) (same_value _ v e), small_value _ v e)
 
-    pub too_far : value_of (value * 10 + (get_or (take n s) i 0 - 48)) true ≡ None → None ≡ decimal_of s
+    pub too_far : value_of (grown value (get_or (take n s) i 0)) true ≡ None → None ≡ decimal_of s
     too_far e = sym (further ∙ too_large _ (drop (i + 1) s) (above _ e))
 
   pub all_digits : length (take n s) ≤ i → i ≤ length (take n s) → n ≤ length s → ends (drop n s) ≡ true → value ≤ 4294967295 → Some value ≡ decimal_of s
@@ -206,7 +206,7 @@ either false x y s t = t
 digits_small : (n : ℕ) (t : List ℕ) → Small (decimal_from n t)
 unfolding decimal_from
 digits_small n [] = value_small n true
-digits_small n (b ∷ t) = either (is_digit b) _ _ (digits_small (n * 10 + (b - 48)) t) (value_small n (ends (b ∷ t)))
+digits_small n (b ∷ t) = either (is_digit b) _ _ (digits_small (grown n b) t) (value_small n (ends (b ∷ t)))
 
 pub decimal_small : (t : List ℕ) → Small (decimal_of t)
 unfolding decimal_of

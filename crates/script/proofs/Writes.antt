@@ -1,21 +1,17 @@
 -- The calls of a script written one after the other; and what reading a script gives, by its verdict. Assumes nothing.
 use mathlib.Core.Path.{◌≡◌, refl, sym, ap, subst, ◌∙◌}
 use mathlib.Core.List.{List, [], ◌∷◌, ◌++◌}
-use Prim.Native.Nat.{ℕ, ◌+◌, ◌*◌, ◌/◌, ◌≤◌, ◌<◌}
+use Prim.Native.Nat.{ℕ, ◌+◌, ◌*◌, ◌≤◌}
 use native.Mathlib.Omega.{arith}
-use borrow.Author.Tests.{le-leb, lt-leb}
 use lib.ListN.{length, drop}
 use lib.Seq.{sets, sets-eq, length-sets}
-use Rattle.std.specs.Prelude.{Result, Ok, Err}
-use Rattle.script.specs.Script.{Call, call, Script, calls, unreadable, followed, at_end, script_of, numbers_of, gave, script_read}
-use Rattle.script.specs.ScriptParts.{script_at, verdict_of, calls_in, put, Fits, calls_written}
+use Rattle.script.specs.Script.{Call, call, Script, calls, unreadable, followed, at_end, script_of, numbers_of}
+use Rattle.script.specs.ScriptParts.{script_at, calls_in, put, Fits, calls_written}
 use Rattle.script.specs.declared.Place.{Place}
 use Rattle.script.specs.declared.Place.TheVariants.{Outside, Inside}
 use Rattle.script.specs.declared.LineStart.{LineStart}
 use Rattle.script.specs.declared.Meaning.{Meaning}
 use Rattle.script.specs.declared.Meaning.TheVariants as meaning
-use Rattle.script.specs.declared.ScriptError.{ScriptError}
-use Rattle.script.specs.declared.ScriptError.TheVariants as error
 
 pub not_calls : {number : ℕ} {cs : List Call} → unreadable number ≡ calls cs → ⊥
 not_calls e = let z : ◌≡◌ {A = ℕ} 0 1 = cc in omega arith

@@ -2,8 +2,7 @@
 #![tactic(auto)]
 
 ghost use Rattle.std.specs.Prelude.{◌≡◌, true, not, ◌+◌, ◌-◌, ◌*◌, ◌≤◌, ◌<◌, length, position, unwrap_or};
-ghost use Rattle.std.specs.Char.{is_ascii_digit};
-ghost use Rattle.script.specs.Commands.{says, value_of, decimal_of, run_of, listing_at, with_numbers, command_of};
+ghost use Rattle.script.specs.Commands.{says, is_digit, value_of, decimal_of, run_of, listing_at, with_numbers, command_of};
 ghost use Rattle.script.specs.Script.{outside, meaning_of, place_after, followed, script_of, gave, script_read};
 ghost use Rattle.script.specs.ScriptParts.{script_at, Within, verdict_of, at_end_answer, calls_in, put, Fits, calls_written};
 
@@ -83,8 +82,9 @@ fn is_word(word: &[u8], line: &[u8]) -> bool
 }
 
 // The place of the first byte that is no decimal digit.
+#[tactic(auto, unfolding(crate::specs::Commands::is_digit))]
 fn first_other(s: &[u8]) -> Option<usize>
-    ensures { result ≡ position (λ b. not (is_ascii_digit b)) s.now }
+    ensures { result ≡ position (λ b. not (is_digit b)) s.now }
 {
     s.iter().position(|b| !b.is_ascii_digit())
 }
@@ -92,7 +92,7 @@ fn first_other(s: &[u8]) -> Option<usize>
 // How many decimal digits stand at the front.
 #[tactic(auto, using(crate::proofs::Decimals::digits_within))]
 fn count_digits(s: &[u8]) -> usize
-    ensures count { result ≡ unwrap_or (position (λ b. not (is_ascii_digit b)) s.now) (length s.now) }
+    ensures count { result ≡ unwrap_or (position (λ b. not (is_digit b)) s.now) (length s.now) }
     ensures fits { result ≤ length s.now }
 {
     first_other(s).unwrap_or(s.len())
@@ -251,7 +251,7 @@ fn read_line(text: &[u8], start: LineStart) -> LineRead
     }
 }
 
-// What a script is, with nothing written yet. Its lines are walked by their starts, which the stretch of a load is told by.
+// What a script is, with nothing written yet. The lines are walked by their starts: what is open at the end decides too.
 fn check(text: &[u8]) -> Result<usize, ScriptError>
     ensures { result ≡ verdict_of (script_of text.now) }
 {
