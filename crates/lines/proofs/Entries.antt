@@ -8,6 +8,8 @@ use native.Mathlib.Omega.{arith}
 use borrow.Author.Tests.{ltb-true, eqb-true, lt-ltb, le-ltb, eq-eqb, ne_eqb}
 use lib.Dec.{eqb, ltb}
 use lib.ListN.{drop}
+use Rattle.std.specs.Bool.{then_some}
+use Rattle.std.specs.Option.{unwrap_or}
 use Rattle.lines.specs.declared.Line.TheVariants.{Blank, Entry, IllFormed}
 use Rattle.lines.specs.Lines.{space, after_spaces, is_empty, ends, byte_at, four_digits, number_at, entry_from, entry_of, read_line}
 
@@ -15,13 +17,6 @@ use Rattle.lines.specs.Lines.{space, after_spaces, is_empty, ends, byte_at, four
 pub a_number : (a b c d : ℕ) → a < 16 → b < 16 → c < 16 → d < 16 → four_digits a b c d ≡ a * 4096 + b * 256 + c * 16 + d
 unfolding four_digits
 a_number a b c d p q r s = rw (lt-ltb a 16 p, lt-ltb b 16 q, lt-ltb c 16 r, lt-ltb d 16 s)
-
-pub no_number : (a b c d : ℕ) → (16 ≤ a) ⊎ ((16 ≤ b) ⊎ ((16 ≤ c) ⊎ (16 ≤ d))) → four_digits a b c d ≡ 65536
-unfolding four_digits
-no_number a b c d (inl h) = rw (le-ltb a 16 h)
-no_number a b c d (inr (inl h)) = rw (le-ltb b 16 h, and-false)
-no_number a b c d (inr (inr (inl h))) = rw (le-ltb c 16 h, and-false)
-no_number a b c d (inr (inr (inr h))) = rw (le-ltb d 16 h, and-false)
 
 -- an entry, well-formed or not
 pub an_entry : (a between w : ℕ) (ended : Bool) → a < 65536 → between ≡ space → w < 65536 → ended ≡ true → entry_from a between w ended ≡ Entry a w
@@ -35,6 +30,13 @@ no_entry a between w ended (inl h) = rw (le-ltb a 65536 h)
 no_entry a between w ended (inr (inl h)) = rw (ne_eqb between space h, and-false)
 no_entry a between w ended (inr (inr (inl h))) = rw (le-ltb w 65536 h, and-false)
 no_entry a between w ended (inr (inr (inr h))) = rw (h, and-false)
+
+-- where the numbers are words with a space between them, the end decides
+pub entry_ended : (a between w : ℕ) (ended : Bool) → a < 65536 → between ≡ space → w < 65536
+    → unwrap_or (then_some ended (Entry a w)) IllFormed ≡ entry_from a between w ended
+unfolding entry_from
+entry_ended a between w true p q r = rw (lt-ltb a 65536 p, eq-eqb between space q, lt-ltb w 65536 r)
+entry_ended a between w false p q r = rw (lt-ltb a 65536 p, eq-eqb between space q, lt-ltb w 65536 r)
 
 pub blank_no_entry : {A : Type 0} (x y : ℕ) → Blank ≡ Entry x y → A
 blank_no_entry x y e = let z : ◌≡◌ {A = ℕ} 0 1 = cc in absurd (omega arith)

@@ -45,18 +45,6 @@ before_length b s = length-take-le (find b s) s (find_le b s)
 pub first_length : (s : List ℕ) → length (first_line s) ≡ find line_feed s
 first_length s = before_length line_feed s
 
-pub spaces_here : (s : List ℕ) (i : ℕ) → i < length s → get_or s i 0 ≡ space → after_spaces (drop i s) ≡ after_spaces (drop (i + 1) s)
-unfolding after_spaces
-spaces_here s i h e = rw (add-one, drop-cons s i 0 h, eq-eqb (get_or s i 0) space e)
-
-pub spaces_over : (s : List ℕ) (i : ℕ) → i < length s → (get_or s i 0 ≡ space → ⊥) → after_spaces (drop i s) ≡ drop i s
-unfolding after_spaces
-spaces_over s i h e = rw (drop-cons s i 0 h, ne_eqb (get_or s i 0) space e)
-
-pub spaces_nothing : (s : List ℕ) (i : ℕ) → length s ≤ i → after_spaces (drop i s) ≡ drop i s
-unfolding after_spaces
-spaces_nothing s i h = rw (drop_of_length-le s h)
-
 pub empty : (t : List ℕ) → length t ≡ 0 → is_empty t ≡ true
 empty [] e = refl
 empty (b ∷ t) e = absurd (omega (arith, e))

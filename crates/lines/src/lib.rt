@@ -89,7 +89,7 @@ pub fn line_ends(s: &[u8]) -> bool
 }
 
 // An entry: the digits of an address, a space, the digits of a word, and a line's end.
-#[tactic(auto, using(crate::proofs::Places::to_end, crate::proofs::Places::too_short, crate::proofs::Entries::an_entry, crate::proofs::Entries::no_entry), unfolding(crate::specs::Lines::entry_of, crate::specs::Lines::number_at))]
+#[tactic(auto, using(crate::proofs::Places::too_short, crate::proofs::Entries::no_entry), unfolding(crate::specs::Lines::entry_of, crate::specs::Lines::number_at))]
 fn entry_of(text: &[u8]) -> Option<Line>
     ensures { unwrap_or result IllFormed ≡ entry_of text.now }
 {
@@ -98,11 +98,7 @@ fn entry_of(text: &[u8]) -> Option<Line>
     };
     let address = number(*a, *b, *c, *d)?;
     let word = number(*e, *f, *g, *h)?;
-    if line_ends(end) {
-        Some(Line::Entry { address, word })
-    } else {
-        None
-    }
+    line_ends(end).then_some(Line::Entry { address, word })
 }
 
 // What a line says, given without its LF.
@@ -129,8 +125,7 @@ fn first_line(s: &[u8]) -> &[u8]
     ensures text { result.now ≡ first_line s.now }
     ensures place { result.ref_ptr ≡ s.entry.ref_ptr }
 {
-    let n = line_length(s);
-    &s[..n]
+    &s[..line_length(s)]
 }
 
 // The line reader: given the rest of a listing, it reads the line at the front. Where nothing is left, that is blank and has no byte.
@@ -161,10 +156,7 @@ fn part_from(s: &[u8], i: usize) -> &[u8]
     ensures text { result.now ≡ drop i s.now }
     ensures place { (result.ref_ptr.0 ≡ s.entry.ref_ptr.0) × (result.ref_ptr.1 ≡ s.entry.ref_ptr.1 + min i (length s.now)) }
 {
-    if s.len() <= i {
-        return &s[s.len()..];
-    }
-    &s[i..]
+    &s[i.min(s.len())..]
 }
 
 // The comment call: the part of the listing after the first `;` from the offset to the line's end, without the LF; an empty part

@@ -85,7 +85,7 @@ pub fn store(listing: &[u8], memory: &mut [u16]) -> Result<usize, FaultAt>
     ensures answer { store_answer result ≡ listing_answer listing.now (length memory.old) }
     ensures memory { memory.new ≡ listing_memory listing.now memory.old }
 {
-    let count = check(listing, memory.len())?;
+    let stored = check(listing, memory.len())?;
     store_lines(listing, memory);
-    Ok(count)
+    Ok(stored)
 }

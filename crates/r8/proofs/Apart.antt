@@ -5,8 +5,9 @@ use mathlib.Core.Logic.{◌⊎◌, inl, inr}
 use mathlib.Core.Bool.{cond}
 use Prim.Native.Nat.{ℕ, ◌≤◌}
 use lib.Dec.{eqb, lit≤}
-use Rattle.replay.specs.declared.ReplayAnswer.{ReplayAnswer}
-use Rattle.replay.specs.declared.ReplayAnswer.TheVariants.{Played, NoCall, NoStretch, NoRoom}
+use Rattle.std.specs.Prelude.{Result, Ok, Err}
+use Rattle.replay.specs.declared.ReplayError.{ReplayError}
+use Rattle.replay.specs.declared.ReplayError.TheVariants.{NoCall, NoStretch, NoRoom}
 use Rattle.r8.specs.Codes.{Code, ok, undefined, no_room, no_core, no_call, no_stretch, too_long, code_number}
 use Rattle.r8.specs.Replay.{replay_code, replay_place}
 use Rattle.r8.specs.Theorems.{CodesApart, ReplayApart}
@@ -39,20 +40,20 @@ pub codes_apart : CodesApart
 codes_apart = (λ x y e. sym (code_back x) ∙ ap code_from e ∙ code_back y, own)
 
 -- the answer of a code and a place
-abbrev answer_from : Code → ℕ → ReplayAnswer
-answer_from ok i = Played i
-answer_from undefined i = NoRoom
-answer_from no_room i = NoRoom
-answer_from no_core i = NoRoom
-answer_from no_call i = NoCall i
-answer_from no_stretch i = NoStretch i
-answer_from too_long i = NoRoom
+abbrev answer_from : Code → ℕ → Result ℕ ReplayError
+answer_from ok i = Ok i
+answer_from undefined i = Err NoRoom
+answer_from no_room i = Err NoRoom
+answer_from no_core i = Err NoRoom
+answer_from no_call i = Err (NoCall i)
+answer_from no_stretch i = Err (NoStretch i)
+answer_from too_long i = Err NoRoom
 
-answer_back : (x : ReplayAnswer) → answer_from (replay_code x) (replay_place x) ≡ x
-answer_back (Played count) = refl
-answer_back (NoCall i) = refl
-answer_back (NoStretch i) = refl
-answer_back NoRoom = refl
+answer_back : (x : Result ℕ ReplayError) → answer_from (replay_code x) (replay_place x) ≡ x
+answer_back (Ok count) = refl
+answer_back (Err (NoCall i)) = refl
+answer_back (Err (NoStretch i)) = refl
+answer_back (Err NoRoom) = refl
 
 pub replay_apart : ReplayApart
 replay_apart x y code place = sym (answer_back x) ∙ (λ j. answer_from (code j) (place j)) ∙ answer_back y

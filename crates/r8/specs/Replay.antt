@@ -1,22 +1,22 @@
 -- r8_replay: what it returns, and what is then in the slices and behind `at`.
-use Rattle.std.specs.Prelude.{List, ℕ}
+use Rattle.std.specs.Prelude.{List, ℕ, Result, Ok, Err}
 use Rattle.replay.specs.Replay.{Replayed}
-use Rattle.replay.specs.declared.ReplayAnswer.{ReplayAnswer}
-use Rattle.replay.specs.declared.ReplayAnswer.TheVariants.{Played, NoCall, NoStretch, NoRoom}
+use Rattle.replay.specs.declared.ReplayError.{ReplayError}
+use Rattle.replay.specs.declared.ReplayError.TheVariants.{NoCall, NoStretch, NoRoom}
 use Rattle.r8.specs.Codes.{Code, ok, no_call, no_stretch, no_room, code_number}
 
-abbrev pub replay_code : ReplayAnswer → Code
-replay_code (Played count) = ok
-replay_code (NoCall i) = no_call
-replay_code (NoStretch i) = no_stretch
-replay_code NoRoom = no_room
+abbrev pub replay_code : Result ℕ ReplayError → Code
+replay_code (Ok count) = ok
+replay_code (Err (NoCall i)) = no_call
+replay_code (Err (NoStretch i)) = no_stretch
+replay_code (Err NoRoom) = no_room
 
 -- how many calls were played, or which is faulty
-abbrev pub replay_place : ReplayAnswer → ℕ
-replay_place (Played count) = count
-replay_place (NoCall i) = i
-replay_place (NoStretch i) = i
-replay_place NoRoom = 0
+abbrev pub replay_place : Result ℕ ReplayError → ℕ
+replay_place (Ok count) = count
+replay_place (Err (NoCall i)) = i
+replay_place (Err (NoStretch i)) = i
+replay_place (Err NoRoom) = 0
 
 pub record Returned : Type 0 where
   pub code : ℕ

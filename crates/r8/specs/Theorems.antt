@@ -1,12 +1,12 @@
 -- Nothing is lost between a core and its numbers, so calls one after the other on the same slices are calls of one core; and what codes say that
 -- the functions return. Eleven statements, proved in proofs/Theorems.antt, proofs/Apart.antt and proofs/Exactly.antt.
-use Rattle.std.specs.Prelude.{◌≡◌, ◌↔◌, ◌⊎◌, true, false, List, ℕ, ◌+◌, ◌≤◌, ◌<◌, length}
+use Rattle.std.specs.Prelude.{◌≡◌, ◌↔◌, ◌⊎◌, true, false, List, ℕ, ◌+◌, ◌≤◌, ◌<◌, length, Result}
 use Rattle.isa.specs.declared.Kind.{Kind}
 use Rattle.table.specs.Table.{kind_of}
 use Rattle.effects.specs.declared.Stop.TheVariants.{Going}
 use Rattle.r8_core.specs.Calls.{Reply, run, step}
 use Rattle.refusals.specs.Theorems.{First, NoneApplies}
-use Rattle.replay.specs.declared.ReplayAnswer.{ReplayAnswer}
+use Rattle.replay.specs.declared.ReplayError.{ReplayError}
 use Rattle.r8_core.specs.TheoremsOfCalls.{run_numbers}
 use Rattle.r8_core.specs.declared.Core.{Core}
 use Rattle.layout.specs.Layout.{answer_size}
@@ -74,7 +74,7 @@ CodesApart =
 
 -- the code that r8_replay returns, and what is then behind `at`, say which answer the replay gave (proved as `replay_apart`)
 abbrev pub ReplayApart : Type 0
-ReplayApart = (x y : ReplayAnswer) → replay_code x ≡ replay_code y → replay_place x ≡ replay_place y → x ≡ y
+ReplayApart = (x y : Result ℕ ReplayError) → replay_code x ≡ replay_code y → replay_place x ≡ replay_place y → x ≡ y
 
 -- what the codes of r8_run and r8_step say (proved as `call_codes`)
 abbrev pub CallCodes : Type 0

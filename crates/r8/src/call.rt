@@ -1,130 +1,99 @@
 // A run and a step of a core given as numbers.
-ghost use Rattle.std.specs.Prelude.{◌≡◌, ◌≤◌, length, take, get_or};
+ghost use Rattle.std.specs.Prelude.{◌≡◌, ◌≤◌, ◌<◌, true, false, length, MatchOption, IfOk, IfErr};
 ghost use Rattle.r8_core.specs.Calls.{run, step};
 ghost use Rattle.r8_core.specs.Answers.{run_answer_of};
-ghost use Rattle.layout.specs.Layout.{flags_of, answer_numbers, onto};
-ghost use Rattle.r8.specs.Numbers.{stop_of, hidden_of, core_of, registers_of, state_of, is_core};
-ghost use Rattle.r8.specs.Codes.{code_number};
+ghost use Rattle.layout.specs.Layout.{answer_numbers, onto};
+ghost use Rattle.r8.specs.Numbers.{stop_of, core_of, registers_of, state_of, is_core};
+ghost use Rattle.r8.specs.Codes.{ok, code_number};
 ghost use Rattle.r8.specs.Call.{code_of, slices, called};
 
 use super::codes;
 use effects::{Hidden, Stop};
-use isa::{Cycles, Flags};
+use isa::Cycles;
+use layout::Answer;
 use r8_core::{Core, RunReply};
 
-fn flags_of(n: u32) -> Flags
-    ensures { result ≡ flags_of n }
-{
-    layout::flags_of(n as u64)
-}
-
-fn stop_of(n: u32) -> Stop
-    ensures { result ≡ stop_of n }
+fn stop_of(n: u32) -> Option<Stop>
+    ensures { MatchOption result (2 < n) (λ stop. (n ≤ 2) × (stop ≡ stop_of n)) }
 {
     match n {
-        0 => Stop::Going,
-        1 => Stop::Halted,
-        _ => Stop::Undefined,
+        0 => Some(Stop::Going),
+        1 => Some(Stop::Halted),
+        2 => Some(Stop::Undefined),
+        _ => None,
     }
 }
 
+// The core of these numbers, where they are one's.
 #[tactic(auto, unfolding(crate::specs::Numbers::is_core))]
-fn is_core(registers: &[u16], state: &[u32]) -> bool
-    ensures { result ≡ is_core registers.now state.now }
+fn core_of(registers: &[u16; 22], state: &[u32; 4]) -> Option<Core>
+    ensures { MatchOption result (is_core registers.now state.now ≡ false) (λ core. (is_core registers.now state.now ≡ true) × (core ≡ core_of registers.now state.now)) }
 {
-    if registers.len() != 22 {
-        return false;
-    }
-    if state.len() != 4 {
-        return false;
-    }
     if 15 < state[0] {
-        return false;
+        return None;
     }
-    if 2 < state[1] {
-        return false;
-    }
-    state[2] <= 255
-}
-
-#[tactic(auto, unfolding(crate::specs::Call::code_of))]
-fn code_of(registers: &[u16], state: &[u32], answer: &[u64]) -> u32
-    ensures { result ≡ code_number (code_of registers.now state.now answer.now) }
-{
-    if !is_core(registers, state) {
-        return codes::NO_CORE;
-    }
-    if answer.len() < 23 {
-        return codes::NO_ROOM;
-    }
-    codes::OK
-}
-
-fn bank_of(registers: &[u16]) -> [u16; 16]
-    requires { length registers.now ≡ 22 }
-    ensures { result ≡ take 16 registers.now }
-{
-    let mut bank = [0u16; 16];
-    super::copy::words(&registers[..16], &mut bank);
-    bank
-}
-
-fn hidden_of(registers: &[u16]) -> Hidden
-    requires { length registers.now ≡ 22 }
-    ensures { result ≡ hidden_of registers.now }
-{
-    Hidden {
+    let stop = stop_of(state[1])?;
+    let due = u8::try_from(state[2]).ok()?;
+    let mut core = r8_core::fresh();
+    let mut regs = [0; 16];
+    regs.copy_from_slice(&registers[..16]);
+    core.regs = regs;
+    core.pc = registers[16];
+    core.sp = registers[17];
+    core.hidden = Hidden {
         ir: registers[18],
         ra: registers[19],
         rb: registers[20],
         ralu: registers[21],
-    }
+    };
+    core.flags = layout::flags_of(u64::from(state[0]));
+    core.stop = stop;
+    core.due = due;
+    core.clock = Cycles(state[3]);
+    Some(core)
 }
 
-fn core_of(registers: &[u16], state: &[u32]) -> Core
-    requires { (length registers.now ≡ 22) × (length state.now ≡ 4) × (get_or state.now 2 0 ≤ 255) }
-    ensures { result ≡ core_of registers.now state.now }
+fn registers_of(core: Core) -> [u16; 22]
+    ensures { result ≡ registers_of core }
 {
-    let mut core = r8_core::fresh();
-    let regs = bank_of(registers);
-    let hidden = hidden_of(registers);
-    let flags = flags_of(state[0]);
-    let clock = Cycles(state[3]);
-    core.regs = regs;
-    core.pc = registers[16];
-    core.sp = registers[17];
-    core.hidden = hidden;
-    core.flags = flags;
-    core.due = state[2] as u8;
-    core.clock = clock;
-    core.with_stop(stop_of(state[1]))
-}
-
-fn put_registers(core: Core, registers: &mut [u16])
-    requires { length registers.old ≡ 22 }
-    ensures { registers.new ≡ registers_of core }
-{
-    let bank = core.regs;
-    super::copy::words(&bank, registers);
+    let mut registers = [0; 22];
+    let regs = core.regs;
+    registers[..16].copy_from_slice(&regs);
     registers[16] = core.pc;
     registers[17] = core.sp;
     registers[18] = core.hidden.ir;
     registers[19] = core.hidden.ra;
     registers[20] = core.hidden.rb;
     registers[21] = core.hidden.ralu;
+    registers
 }
 
-fn put_state(core: Core, state: &mut [u32])
-    requires { length state.old ≡ 4 }
-    ensures { state.new ≡ state_of core }
+fn state_of(core: Core) -> [u32; 4]
+    ensures { result ≡ state_of core }
 {
-    let flags = core.flags;
-    let stop = core.stop;
-    let clock = core.clock;
-    state[0] = layout::flags_number(flags) as u32;
-    state[1] = layout::stop_number(stop) as u32;
-    state[2] = core.due as u32;
-    state[3] = clock.0;
+    [
+        layout::flags_number(core.flags) as u32,
+        layout::stop_number(core.stop) as u32,
+        u32::from(core.due),
+        core.clock.0,
+    ]
+}
+
+// The core that a call is made of, or the code of why none is.
+#[tactic(auto, unfolding(crate::specs::Call::code_of, crate::specs::Numbers::is_core))]
+fn taken(registers: &[u16], state: &[u32], answer: &[u64]) -> Result<Core, u32>
+    ensures made { IfOk result (λ core. (code_of registers.now state.now answer.now ≡ ok) × (core ≡ core_of registers.now state.now)) }
+    ensures sizes { IfOk result (λ _. (length registers.now ≡ 22) × (length state.now ≡ 4) × (23 ≤ length answer.now)) }
+    ensures not_made { IfErr result (λ code. (code ≡ code_number (code_of registers.now state.now answer.now)) × (0 < code)) }
+{
+    let (Ok(registers), Ok(state)) = (registers.try_into(), state.try_into()) else {
+        return Err(codes::NO_CORE);
+    };
+    let core = core_of(registers, state).ok_or(codes::NO_CORE)?;
+    if answer.len() < 23 {
+        return Err(codes::NO_ROOM);
+    }
+    Ok(core)
 }
 
 // The next core and the answer, into the lent slices.
@@ -132,12 +101,9 @@ fn put(reply: RunReply, registers: &mut [u16], state: &mut [u32], answer: &mut [
     requires { (length registers.old ≡ 22) × (length state.old ≡ 4) × (23 ≤ length answer.old) }
     ensures { (registers.new ≡ registers_of reply.core) × (state.new ≡ state_of reply.core) × (answer.new ≡ onto (answer_numbers (run_answer_of reply.answer)) answer.old) }
 {
-    let core = reply.core;
-    let said = reply.answer;
-    let numbers = layout::run_numbers(said);
-    put_registers(core, registers);
-    put_state(core, state);
-    layout::put(answer, numbers);
+    registers.copy_from_slice(&registers_of(reply.core));
+    state.copy_from_slice(&state_of(reply.core));
+    layout::put(answer, reply.answer.numbers());
 }
 
 // b datapath cycles, fewer if the core stops.
@@ -151,13 +117,13 @@ pub fn r8_run(
 ) -> u32
     ensures { (result, slices registers.new state.new memory.new answer.new) ≡ called (run b) (slices registers.old state.old memory.old answer.old) }
 {
-    let code = code_of(registers, state, answer);
-    if code != codes::OK {
-        return code;
+    match taken(registers, state, answer) {
+        Ok(core) => {
+            put(core.run(b, memory), registers, state, answer);
+            codes::OK
+        }
+        Err(code) => code,
     }
-    let reply = core_of(registers, state).run(b, memory);
-    put(reply, registers, state, answer);
-    codes::OK
 }
 
 // One instruction by the instruction engine.
@@ -170,11 +136,11 @@ pub fn r8_step(
 ) -> u32
     ensures { (result, slices registers.new state.new memory.new answer.new) ≡ called step (slices registers.old state.old memory.old answer.old) }
 {
-    let code = code_of(registers, state, answer);
-    if code != codes::OK {
-        return code;
+    match taken(registers, state, answer) {
+        Ok(core) => {
+            put(core.step(memory), registers, state, answer);
+            codes::OK
+        }
+        Err(code) => code,
     }
-    let reply = core_of(registers, state).step(memory);
-    put(reply, registers, state, answer);
-    codes::OK
 }

@@ -30,7 +30,7 @@ pub fn r8_form(word: u16, form: &mut [u16]) -> u32
     }
     match forms::word_to_form(word) {
         Ok(read) => {
-            super::copy::words(&form_numbers(read), form);
+            form[..7].copy_from_slice(&form_numbers(read));
             codes::OK
         }
         Err(_) => codes::UNDEFINED,

@@ -3,7 +3,6 @@
 #![tactic(auto)]
 
 mod codes; // what the functions return
-mod copy; // words copied to the front of a lent slice
 pub mod form; // r8_form
 pub mod written; // r8_listing
 pub mod call; // r8_run, r8_step

@@ -5,28 +5,27 @@ ghost use Rattle.r8.specs.Codes.{code_number};
 ghost use Rattle.r8.specs.Replay.{replay_code, replay_place, replay_returned, returned_replay};
 
 use super::codes;
-use replay::ReplayAnswer;
+use replay::ReplayError;
 
-fn code_of(answer: ReplayAnswer) -> u32
+fn code_of(answer: Result<usize, ReplayError>) -> u32
     ensures { result ≡ code_number (replay_code answer) }
 {
     match answer {
-        ReplayAnswer::Played(_) => codes::OK,
-        ReplayAnswer::NoCall(_) => codes::NO_CALL,
-        ReplayAnswer::NoStretch(_) => codes::NO_STRETCH,
-        ReplayAnswer::NoRoom => codes::NO_ROOM,
+        Ok(_) => codes::OK,
+        Err(ReplayError::NoCall(_)) => codes::NO_CALL,
+        Err(ReplayError::NoStretch(_)) => codes::NO_STRETCH,
+        Err(ReplayError::NoRoom) => codes::NO_ROOM,
     }
 }
 
 // How many calls were played, or the index of the faulty one.
-fn place_of(answer: ReplayAnswer) -> u64
+fn place_of(answer: Result<usize, ReplayError>) -> usize
     ensures { result ≡ replay_place answer }
 {
     match answer {
-        ReplayAnswer::Played(count) => count as u64,
-        ReplayAnswer::NoCall(i) => i as u64,
-        ReplayAnswer::NoStretch(i) => i as u64,
-        ReplayAnswer::NoRoom => 0,
+        Ok(count) => count,
+        Err(ReplayError::NoCall(i) | ReplayError::NoStretch(i)) => i,
+        Err(ReplayError::NoRoom) => 0,
     }
 }
 
@@ -40,6 +39,6 @@ pub fn r8_replay(
     ensures { returned_replay result at.new memory.new answers.new ≡ replay_returned (replayed (read_calls text.now calls.now) memory.old answers.old) }
 {
     let answer = replay::replay(calls, text, memory, answers);
-    *at = place_of(answer);
+    *at = place_of(answer) as u64;
     code_of(answer)
 }

@@ -4,34 +4,28 @@ ghost use Rattle.trace.specs.Trace.{finding_of};
 ghost use Rattle.r8.specs.Trace.{found_returned, traced_returned, trace_returned};
 
 use super::codes;
-use r8_core::{LoadAnswer, RunAnswer};
-use trace::TraceAnswer;
+use layout::Answer;
+use r8_core::{ListingError, Ran};
+use refusals::Refusal;
+use trace::TraceError;
 
 // The answer that was found, into the lent slice.
-fn put_found(found: TraceAnswer, answer: &mut [u64]) -> u32
+fn put_found(found: Result<Ran, TraceError>, answer: &mut [u64]) -> u32
     ensures { (result, answer.new) ≡ found_returned (finding_of found) answer.old }
 {
     match found {
-        TraceAnswer::Traced {
-            cycles,
-            instructions,
-            end,
-        } => {
-            let ran = RunAnswer::Ran {
-                cycles: cycles,
-                instructions: instructions,
-                end: end,
-            };
-            layout::put(answer, layout::run_numbers(ran));
+        Ok(ran) => {
+            let said: Result<Ran, Refusal> = Ok(ran);
+            layout::put(answer, said.numbers());
             codes::OK
         }
-        TraceAnswer::Faulty(fault, offset) => {
-            let faulty = LoadAnswer::Faulty(fault, offset);
-            layout::put(answer, layout::load_numbers(faulty));
+        Err(TraceError::Faulty(at)) => {
+            let said: Result<usize, ListingError> = Err(ListingError::Faulty(at));
+            layout::put(answer, said.numbers());
             codes::OK
         }
-        TraceAnswer::TooLong => codes::TOO_LONG,
-        TraceAnswer::NoRoom => codes::NO_ROOM,
+        Err(TraceError::TooLong) => codes::TOO_LONG,
+        Err(TraceError::NoRoom) => codes::NO_ROOM,
     }
 }
 
@@ -45,6 +39,5 @@ pub fn r8_trace(listing: &[u8], rows: &mut [u64], answer: &mut [u64]) -> u32
     if answer.len() < 23 {
         return codes::NO_ROOM;
     }
-    let found = trace::trace(listing, rows);
-    put_found(found, answer)
+    put_found(trace::trace(listing, rows), answer)
 }
