@@ -12,7 +12,7 @@ use lib.ListN.{length, get_or, take, drop, length-drop, drop_of_length-le, get_o
 use lib.Seq.{drop-cons, take_all, length-take-le}
 use Rattle.hexadecimal.specs.Digits.{digit_value}
 use Rattle.lines.specs.declared.Line.TheVariants.{IllFormed}
-use Rattle.lines.specs.Lines.{line_feed, space, semicolon, find, first_line, after_spaces, is_empty, nothing_or_comment, four_digits, number_at, entry_from, entry_of}
+use Rattle.lines.specs.Lines.{line_feed, semicolon, find, first_line, is_empty, nothing_or_comment, four_digits, number_at, entry_from, entry_of}
 
 -- `&s[i..]`
 pub to_end : (s : List ℕ) (i : ℕ) → take (length s - i) (drop i s) ≡ drop i s

@@ -11,7 +11,6 @@ ghost use Rattle.lines.specs.declared.Line.TheVariants.{IllFormed};
 ghost use Rattle.lines.specs.Comment.{comment_text, comment_start};
 
 mod search; // the place of a byte
-
 mod walk; // the lines of a listing
 
 pub use walk::Lines;
