@@ -5,7 +5,7 @@
 use layout::Answer;
 use output::Page;
 use replay::CallFault;
-use script::ScriptAnswer;
+use script::ScriptError;
 use std::io;
 
 // A word of an answer. It fits; the remainder only says so.
@@ -117,15 +117,15 @@ fn play_script(
     calls: &mut [u64],
 ) -> io::Result<()> {
     match script::read(input, calls) {
-        ScriptAnswer::Read(count) => {
+        Ok(count) => {
             let mut memory = [0u16; 16384];
             play(rt, page, &calls[..count * 3], input, &mut memory)?;
         }
-        ScriptAnswer::Unreadable(line) => {
+        Err(ScriptError::Unreadable(line)) => {
             page.put_number(b"line ", line as u64);
             page.put(b" cannot be read\n");
         }
-        ScriptAnswer::NoRoom => page.put(b"too many calls\n"),
+        Err(ScriptError::NoRoom) => page.put(b"too many calls\n"),
     }
     Ok(())
 }
