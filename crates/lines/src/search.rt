@@ -3,6 +3,7 @@ ghost use Rattle.std.specs.Prelude.{◌≡◌, ◌+◌, ◌≤◌, leb, length, 
 ghost use Rattle.lines.specs.Lines.{find};
 
 // Whether none of the eight bytes from a place on is b: all are compared, so that the compiler can compare them at once.
+#[tactic(auto, using(crate::proofs::Eights::eight))]
 fn none_of_eight(s: &[u8], i: usize, b: u8) -> bool
     requires { i + 8 ≤ length s.now }
     ensures { result ≡ leb 8 (find b (drop i s.now)) }
@@ -13,6 +14,7 @@ fn none_of_eight(s: &[u8], i: usize, b: u8) -> bool
 }
 
 // A place that is not past the first byte b: eight bytes a turn.
+#[tactic(auto, using(crate::proofs::Eights::find_over))]
 fn place_before(s: &[u8], b: u8) -> usize
     ensures within { result ≤ length s.now }
     ensures rest { find b s.now ≡ result + find b (drop result s.now) }
