@@ -74,7 +74,8 @@ fn flag_name(condition: Condition) -> &'static str {
     }
 }
 
-// A form as it is printed: its name and its operands. A jump is JMP, its flag, and a letter for its target: JMP, JMPN, JMPR, JMPNR, JMPD, JMPND.
+// A form as it is printed: its name and its operands. A jump is JMP, the flag that it goes on, and a letter for its target: JMP, JMPN, JMPR,
+// JMPNR, JMPD, JMPND.
 #[derive(Clone, Copy)]
 struct Shown(Form);
 

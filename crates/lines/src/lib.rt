@@ -11,7 +11,6 @@ ghost use Rattle.lines.specs.declared.Line.TheVariants.{IllFormed};
 ghost use Rattle.lines.specs.Comment.{comment_text, comment_start};
 
 mod search; // the place of a byte
-
 mod walk; // the lines of a listing
 
 pub use walk::Lines;
@@ -113,6 +112,7 @@ fn line_of(text: &[u8]) -> Line
 }
 
 // How many bytes the line at the front has, the LF not counted.
+#[tactic(auto, using(crate::proofs::Places::first_length))]
 pub fn line_length(rest: &[u8]) -> usize
     ensures { result ≡ length (first_line rest.now) }
 {
@@ -161,6 +161,7 @@ fn part_from(s: &[u8], i: usize) -> &[u8]
 
 // The comment call: the part of the listing after the first `;` from the offset to the line's end, without the LF; an empty part
 // where there is none, or the offset is past the end.
+#[tactic(auto, using(crate::proofs::Places::find_le))]
 pub fn comment(listing: &[u8], offset: usize) -> &[u8]
     ensures text { result.now ≡ comment_text listing.now offset }
     ensures place { (result.ref_ptr.0 ≡ listing.entry.ref_ptr.0) × (result.ref_ptr.1 ≡ listing.entry.ref_ptr.1 + comment_start listing.now offset) }

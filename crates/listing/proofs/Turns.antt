@@ -1,10 +1,9 @@
 -- A listing checked, counted and stored line by line, as the iterator over its lines gives them. Assumes nothing.
-use mathlib.Core.Path.{◌≡◌, refl, ap, ◌∙◌}
+use mathlib.Core.Path.{◌≡◌, refl, ap}
 use mathlib.Core.Bool.{Bool, true, false, cond}
 use mathlib.Core.List.{List, [], ◌∷◌}
 use Prim.Native.Nat.{ℕ, ◌+◌, ◌≤◌}
 use native.Mathlib.Omega.{arith}
-use borrow.Author.Tests.{ne_eqb}
 use lib.Dec.{eqb, lit≤}
 use lib.ListN.{length, length-set}
 use Rattle.lines.specs.Lines.{line_feed, prepend, lines, read_line}
@@ -13,7 +12,7 @@ use Rattle.lines.specs.declared.Line.{Line}
 use Rattle.lines.specs.declared.Line.TheVariants.{Blank, Entry, IllFormed}
 use Rattle.listing.specs.Answers.{fault_number}
 use Rattle.listing.specs.declared.Fault.{Fault}
-use Rattle.listing.specs.Listing.{lowest_after, fault_of, Check, sound, faulty, first_of, first_fault, words_of, words_in, store_line, store_lines}
+use Rattle.listing.specs.Listing.{lowest_after, fault_of, Check, sound, first_of, first_fault, words_of, words_in, store_line, store_lines}
 
 -- 0 is no fault's number
 pub numbered : (fault : Fault) → fault_number fault ≡ 0 → ⊥

@@ -2,143 +2,51 @@
 // words that changed, and how many did.
 #![tactic(auto)]
 
-ghost use Rattle.std.specs.Prelude.{◌<◌, ◌≤◌, length, IfOk};
-
-use listing::StoreAnswer;
+use listing::FaultAt;
 use std::io;
-
-fn print(rt: &impl Print, text: &[u8]) -> io::Result<()> {
-    rt.write_all(text)
-}
-
-// A number in base ten.
-fn print_number(rt: &impl Print, before: &[u8], n: usize) -> io::Result<()> {
-    rt.write_all(before)?;
-    rt.print(n as u64)
-}
-
-fn print_word(rt: &impl Print, before: &[u8], word: u16) -> io::Result<()> {
-    print(rt, before)?;
-    print(rt, &hexadecimal::word_text(word))
-}
 
 // What the word at an index is before a store.
 fn filler(i: usize) -> u16 {
-    ((i % 65536 + 0xA000) % 65536) as u16
+    ((i % 65536) as u16).wrapping_add(0xA000)
 }
 
 fn fill(memory: &mut [u16]) {
-    for i in 0..memory.len() {
-        memory[i] = filler(i);
+    for (i, word) in memory.iter_mut().enumerate() {
+        *word = filler(i);
     }
 }
 
-// A word that changed, after some others that did.
-fn print_change(rt: &impl Print, others: usize, i: usize, word: u16) -> io::Result<()> {
-    if others < 4 {
-        print_word(rt, b" ", (i % 65536) as u16)?;
-        print_word(rt, b"=", word)?;
-    }
-    Ok(())
+fn has_changed(at: &(usize, &u16)) -> bool {
+    *at.1 != filler(at.0)
 }
 
-// Prints the first words that changed, and answers how many did.
-fn print_changes(rt: &impl Print, memory: &[u16]) -> io::Result<usize> {
-    let mut count = 0;
-    for i in 0..memory.len() {
-        let word = memory[i];
-        if word != filler(i) {
-            print_change(rt, count, i, word)?;
-            count += 1;
-        }
+// Prints the first four words that changed, and how many did.
+fn print_changes(rt: &impl Print, memory: &[u16]) -> io::Result<()> {
+    for (i, word) in memory.iter().enumerate().filter(has_changed).take(4) {
+        print!(rt; " {:04X}={word:04X}", i % 65536)?;
     }
-    Ok(count)
-}
-
-fn print_answer(rt: &impl Print, answer: StoreAnswer) -> io::Result<()> {
-    match answer {
-        StoreAnswer::Stored(count) => print_number(rt, b": stored ", count),
-        StoreAnswer::Refused(fault, offset) => {
-            print_number(rt, b": refused ", listing::fault_number(fault) as usize)?;
-            print_number(rt, b" at ", offset)
-        }
-    }
+    let count = memory.iter().enumerate().filter(has_changed).count();
+    println!(rt; ", changed {count}")
 }
 
 // Stores a listing into a memory as it lies.
 fn show_store(rt: &impl Print, memory: &mut [u16], name: &[u8], text: &[u8]) -> io::Result<()> {
-    let answer = listing::store(text, memory);
-    print(rt, name)?;
-    print_answer(rt, answer)?;
-    let count = print_changes(rt, memory)?;
-    print_number(rt, b", changed ", count)?;
-    print(rt, b"\n")
-}
-
-// The place of the first `|` from a place on, the length where there is none.
-fn bar_from(s: &[u8], from: usize) -> usize
-    requires { from ≤ length s.now }
-    ensures { (from ≤ result) × (result ≤ length s.now) }
-{
-    let mut i = from;
-    while i < s.len() {
-        if s[i] == b'|' {
-            return i;
-        }
-        i += 1;
+    rt.write_all(name)?;
+    match listing::store(text, memory) {
+        Ok(count) => print!(rt; ": stored {count}")?,
+        Err(FaultAt { fault, offset }) => print!(rt; ": refused {} at {offset}", u8::from(fault))?,
     }
-    i
+    print_changes(rt, memory)
 }
 
-// The place after a `|`, or the end.
-fn after(bar: usize, end: usize) -> usize
-    requires { bar ≤ end }
-    ensures { (bar ≤ result) × (result ≤ end) }
-{
-    if bar < end { bar + 1 } else { end }
-}
-
-fn between(s: &[u8], a: usize, e: usize) -> &[u8]
-    requires { (a ≤ e) × (e ≤ length s.now) }
-{
-    &s[a..e]
-}
-
-fn prepare(memory: &mut [u16], keep: bool) {
-    if !keep {
-        fill(memory);
-    }
-}
-
-// The case at a place: a name, `|`, a listing, `|`. Answers the place after it.
-fn show_case(
-    rt: &impl Print,
-    memory: &mut [u16],
-    keep: bool,
-    cases: &[u8],
-    at: usize,
-) -> io::Result<usize>
-    requires { at < length cases.now }
-    ensures { IfOk result (λ next. at < next) }
-{
-    let bar = bar_from(cases, at);
-    let start = after(bar, cases.len());
-    let end = bar_from(cases, start);
-    prepare(memory, keep);
-    show_store(
-        rt,
-        memory,
-        between(cases, at, bar),
-        between(cases, start, end),
-    )?;
-    Ok(end + 1)
-}
-
-// Stores the listings of some cases: each into a memory filled anew, or into what the last one left.
+// Stores the listings of some cases, each a name, `|`, a listing, `|`: into a memory filled anew, or into what the last one left.
 fn show_cases(rt: &impl Print, memory: &mut [u16], keep: bool, cases: &[u8]) -> io::Result<()> {
-    let mut at = 0;
-    while at < cases.len() {
-        at = show_case(rt, memory, keep, cases, at)?;
+    let mut parts = cases.split(|b| *b == b'|');
+    while let (Some(name), Some(text)) = (parts.next(), parts.next()) {
+        if !keep {
+            fill(memory);
+        }
+        show_store(rt, memory, name, text)?;
     }
     Ok(())
 }
@@ -299,26 +207,18 @@ fn show_again(rt: &impl Print) -> io::Result<()> {
     show_cases(rt, &mut memory, true, cases)
 }
 
-// A byte of the long listing: ten for each address, whose word is its filler.
-fn entry_byte(i: usize) -> u8 {
-    let address = hexadecimal::word_text((i / 10 % 65536) as u16);
-    let word = hexadecimal::word_text(filler(i / 10));
-    let place = i % 10;
-    if place < 4 {
-        return address[place];
-    }
-    if place == 4 {
-        return b' ';
-    }
-    if place < 9 {
-        return word[place - 5];
-    }
-    b'\n'
+// A line of a listing.
+fn entry(address: u16, word: u16) -> [u8; 10] {
+    let [a, b, c, d] = hexadecimal::word_text(address);
+    let [e, f, g, h] = hexadecimal::word_text(word);
+    [a, b, c, d, b' ', e, f, g, h, b'\n']
 }
 
+// A line for each address, whose word is its filler.
 fn write_entries(text: &mut [u8; 655360]) {
-    for i in 0..655360 {
-        text[i] = entry_byte(i);
+    let (lines, _) = text.as_chunks_mut::<10>();
+    for (line, address) in lines.iter_mut().zip(0..=u16::MAX) {
+        *line = entry(address, filler(usize::from(address)));
     }
 }
 
@@ -343,27 +243,16 @@ fn show_long(rt: &impl Print) -> io::Result<()> {
     show_entries(rt, &mut memory, &text)
 }
 
-// A byte of a comment, with CR as `\r`.
-fn print_byte(rt: &impl Print, byte: u8) -> io::Result<()> {
-    if byte == b'\r' {
-        print(rt, b"\\r")
-    } else {
-        rt.write_all(&[byte])
-    }
-}
-
-fn print_part(rt: &impl Print, part: &[u8]) -> io::Result<()> {
-    for i in 0..part.len() {
-        print_byte(rt, part[i])?;
-    }
-    Ok(())
-}
-
+// A comment, with CR as `\r`.
 fn show_comment(rt: &impl Print, text: &[u8], offset: usize) -> io::Result<()> {
-    print_number(rt, b"comment from ", offset)?;
-    print(rt, b": [")?;
-    print_part(rt, lines::comment(text, offset))?;
-    print(rt, b"]\n")
+    print!(rt; "comment from {offset}: [")?;
+    for byte in lines::comment(text, offset) {
+        match *byte {
+            b'\r' => rt.write_all(b"\\r")?,
+            byte => rt.write_all(&[byte])?,
+        }
+    }
+    println!(rt; "]")
 }
 
 fn show_at(rt: &impl Print, offset: usize) -> io::Result<()> {
@@ -381,7 +270,7 @@ fn show_every_offset(rt: &impl Print) -> io::Result<()> {
 
 // The largest offset; listings of nothing and of one byte.
 fn show_little(rt: &impl Print) -> io::Result<()> {
-    show_at(rt, 18446744073709551615)?;
+    show_at(rt, usize::MAX)?;
     show_comment(rt, b"", 0)?;
     show_comment(rt, b"", 1)?;
     show_comment(rt, b";", 0)

@@ -1,10 +1,14 @@
 -- The premise of `EveryListMade` and the contracts of the calls: two statements, proved in proofs/Made.antt. They name what the prover makes of
 -- the functions of `r8_core` for proofs, so they stand apart from what contracts of other crates cite.
-use Rattle.std.specs.Prelude.{◌≡◌, List, ℕ}
+use Rattle.std.specs.Prelude.{◌≡◌, List, ℕ, Result}
+use Rattle.r8_core.specs.declared.Answered.{Answered}
+use Rattle.r8_core.specs.declared.ListingError.{ListingError}
+use Rattle.r8_core.specs.declared.Ran.{Ran}
+use Rattle.refusals.specs.declared.Refusal.{Refusal}
+use Rattle.r8_core.specs.declared.Snapshot.{Snapshot}
 use Rattle.std.specs.Borrow.{Bor, MutBor}
 use Rattle.r8_core.specs.Cores.{fresh_core}
 use Rattle.r8_core.specs.declared.Core.{Core}
-use Rattle.r8_core.specs.Answers.{LoadReply, RunReply, ViewReply}
 use Rattle.r8_core.proofs.fresh.Reads as contract-of-fresh
 use Rattle.r8_core.proofs.Core.reset.Reads as contract-of-reset
 use Rattle.r8_core.proofs.Core.load.Reads as contract-of-load
@@ -18,7 +22,8 @@ use Rattle.machine.specs.Theorem.{reset, load, run, step, view, Kept}
 -- of the references (κ), the arguments, the result, and the arguments again, at exit, when the lent memory M has become M'
 abbrev pub ContractsKept : Type 0
 ContractsKept =
-    (c next : Core) (text : Bor (List ℕ)) (M M' : MutBor (List ℕ)) (b : ℕ) (l : LoadReply) (r : RunReply) (v : ViewReply) (κ κ' : List ℕ)
+    (c next : Core) (text : Bor (List ℕ)) (M M' : MutBor (List ℕ)) (b : ℕ)
+    (l : Answered (Result ℕ ListingError)) (r : Answered (Result Ran Refusal)) (v : Answered (Result Snapshot Refusal)) (κ κ' : List ℕ)
     → (contract-of-fresh.Learnt tt tt next tt → next ≡ fresh_core)
     × (contract-of-reset.Learnt tt (c, tt) next (c, tt) → Kept reset next c M.now)
     × (contract-of-load.Learnt (κ, (κ', tt)) (c, (text, (M, tt))) l (c, (text, (M', tt))) → Kept (load text.now) (l, M'.now) c M.now)

@@ -1,13 +1,18 @@
 -- Demand 3: on every list of calls a core and the instruction machine agree (`EveryList`), and after each cycle of a run, as the definition of
 -- run has them (`EveryMoment`); and so do calls of the code, made one after the other (`EveryListMade`, by the contracts of the functions:
 -- `ContractsKept`, `NothingAsked` of Contracts.antt). Three statements, proved in proofs/Theorem.antt and proofs/Made.antt.
-use Rattle.std.specs.Prelude.{◌≡◌, true, List, map, ℕ, ◌+◌, ◌≤◌, length}
+use Rattle.std.specs.Prelude.{◌≡◌, true, List, map, ℕ, ◌+◌, ◌≤◌, length, Result}
+use Rattle.r8_core.specs.declared.Answered.{Answered}
+use Rattle.r8_core.specs.declared.ListingError.{ListingError}
+use Rattle.r8_core.specs.declared.Ran.{Ran}
+use Rattle.refusals.specs.declared.Refusal.{Refusal}
+use Rattle.r8_core.specs.declared.Snapshot.{Snapshot}
 use Rattle.r8_core.specs.Cores.{visible_of, fresh_core}
 use Rattle.r8_core.specs.Spent.{spent_of, due_in_range}
 use Rattle.r8_core.specs.Progress.{Progress, starting, cycles_on}
 use Rattle.r8_core.specs.Calls as core
 use Rattle.r8_core.specs.Calls.{Answer, done, stored, ran, viewed, refused, refused_at, Reply}
-use Rattle.r8_core.specs.Answers.{LoadReply, RunReply, ViewReply, load_answer_of, run_answer_of, view_answer_of, reset_gave, load_gave, run_gave, view_gave}
+use Rattle.r8_core.specs.Answers.{load_answer_of, run_answer_of, view_answer_of, reset_gave, load_gave, run_gave, view_gave}
 use Rattle.r8_core.specs.declared.Core.{Core}
 use Rattle.r8_core.specs.declared.End.{End}
 use Rattle.plays.specs.Plays.{play, Each, counted}
@@ -107,10 +112,10 @@ EveryMoment =
 -- The code: what a call gives back and, if it is lent the memory, the memory as it then is
 abbrev pub Given : Call → Type 0
 Given reset = Core
-Given (load text) = LoadReply × List ℕ
-Given (run b) = RunReply × List ℕ
-Given step = RunReply × List ℕ
-Given view = ViewReply
+Given (load text) = Answered (Result ℕ ListingError) × List ℕ
+Given (run b) = Answered (Result Ran Refusal) × List ℕ
+Given step = Answered (Result Ran Refusal) × List ℕ
+Given view = Answered (Result Snapshot Refusal)
 
 -- a call that was made, and what it gave back
 pub record Made : Type 0 where

@@ -1,7 +1,7 @@
 // A lent page that is filled with text. A byte that would go past the page's end is lost.
 #![tactic(auto)]
 
-ghost use Rattle.std.specs.Prelude.{◌≡◌, ◌++◌, [], ◌∷◌};
+ghost use Rattle.std.specs.Prelude.{◌≡◌, ◌++◌, [], ◌∷◌, take};
 ghost use Rattle.hexadecimal.specs.Digits.{word_text};
 ghost use Rattle.text.specs.Decimal.{decimal_text};
 ghost use Rattle.output.specs.Page.{totals_text};
@@ -28,6 +28,23 @@ impl<'a> Page<'a> {
         ensures { result ≡ self.now.at }
     {
         self.at
+    }
+
+    // The bytes that are put on it.
+    pub fn written(&self) -> &[u8]
+        ensures { result.now ≡ take self.now.at self.now.bytes.now }
+    {
+        let bytes = &*self.bytes;
+        bytes.get(..self.at).unwrap_or(bytes)
+    }
+
+    // Begins the page anew.
+    pub fn clear(&mut self)
+        ensures same_reference { self.new.bytes.ghost_name ≡ self.old.bytes.ghost_name }
+        ensures bytes { self.new.bytes.now ≡ self.old.bytes.now }
+        ensures at { self.new.at ≡ 0 }
+    {
+        self.at = 0;
     }
 
     #[tactic(auto, unfolding(crate::specs::Page::put_on))]

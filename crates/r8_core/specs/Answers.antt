@@ -39,26 +39,16 @@ shown core =
       clock = core.clock;
     }
 
--- what the calls that answer give back, as the code names it
-abbrev pub LoadReply : Type 0
-LoadReply = Answered (Result ℕ ListingError)
-
-abbrev pub RunReply : Type 0
-RunReply = Answered (Result Ran Refusal)
-
-abbrev pub ViewReply : Type 0
-ViewReply = Answered (Result Snapshot Refusal)
-
 -- what each call gave back, with the memory as it then is. Reset and view are lent none and cannot change it: theirs are functions of the
 -- memory there is, and hand it on
 abbrev pub reset_gave : Core → List ℕ → Reply
 reset_gave core memory = record { answer = done; core = core; memory = memory }
 
-abbrev pub load_gave : LoadReply → List ℕ → Reply
+abbrev pub load_gave : Answered (Result ℕ ListingError) → List ℕ → Reply
 load_gave r memory = record { answer = load_answer_of r.answer; core = r.core; memory = memory }
 
-abbrev pub run_gave : RunReply → List ℕ → Reply
+abbrev pub run_gave : Answered (Result Ran Refusal) → List ℕ → Reply
 run_gave r memory = record { answer = run_answer_of r.answer; core = r.core; memory = memory }
 
-abbrev pub view_gave : ViewReply → List ℕ → Reply
+abbrev pub view_gave : Answered (Result Snapshot Refusal) → List ℕ → Reply
 view_gave r memory = record { answer = view_answer_of r.answer; core = r.core; memory = memory }

@@ -2,6 +2,7 @@
 -- taken; and that different answers are read differently, each by its own parts. Ten statements, proved in proofs/Refusals.antt, proofs/Taken.antt,
 -- proofs/Again.antt and proofs/Apart.antt.
 use Rattle.std.specs.Prelude.{◌≡◌, ◌↔◌, ◌⊎◌, false, List, [], ◌∷◌, ℕ, ◌+◌, ◌≤◌, ◌<◌, length, Result, Ok, Err}
+use Rattle.r8_core.specs.declared.Answered.{Answered}
 use Rattle.refusals.specs.Refusals.{refusal_number}
 use Rattle.refusals.specs.Theorems.{First, NoneApplies}
 use Rattle.refusals.specs.declared.Refusal.{Refusal}
@@ -17,7 +18,7 @@ use Rattle.effects.specs.Hidden.{no_hidden}
 use Rattle.r8_core.specs.Cores.{fresh_core, with_hidden, visible_of}
 use Rattle.r8_core.specs.Instruction.{takes}
 use Rattle.r8_core.specs.Calls.{Answer, done, stored, ran, viewed, refused, refused_at, Reply, reset, load, view, run, step}
-use Rattle.r8_core.specs.Answers.{LoadReply, RunReply, ViewReply, load_answer_of, run_answer_of, view_answer_of, shown, reset_gave, load_gave, run_gave, view_gave}
+use Rattle.r8_core.specs.Answers.{load_answer_of, run_answer_of, view_answer_of, shown, reset_gave, load_gave, run_gave, view_gave}
 use Rattle.r8_core.specs.Datapath.{due_cycle, cycle_or_idle}
 use Rattle.r8_core.specs.declared.Core.{Core}
 use Rattle.r8_core.specs.declared.Transition.{Transition}
@@ -207,7 +208,8 @@ Hands core memory reply = (reply.core ≡ core) × (reply.memory ≡ memory)
 -- as `read_exactly`)
 abbrev pub ReadExactly : Type 0
 ReadExactly =
-    (core : Core) (memory : List ℕ) (l : LoadReply) (r : RunReply) (v : ViewReply) (n : ℕ) (at : FaultAt) (ran_so : Ran)
+    (core : Core) (memory : List ℕ) (l : Answered (Result ℕ ListingError)) (r : Answered (Result Ran Refusal)) (v : Answered (Result Snapshot Refusal))
+    (n : ℕ) (at : FaultAt) (ran_so : Ran)
     → Hands core memory (reset_gave core memory)
     × Hands l.core memory (load_gave l memory)
     × Hands r.core memory (run_gave r memory)

@@ -1,33 +1,12 @@
 // r8trace: reads a listing from standard input and writes its trace, `printed::trace_text`. A page of 16,384 bytes holds every trace.
 #![tactic(auto)]
 
-ghost use Rattle.std.specs.Prelude.{◌≤◌, ◌<◌, length, take, IfOk};
-ghost use Rattle.std.specs.Io.KnownBytes.{Consumes, IsAtEnd};
-
 use std::io;
-use std::io::Read;
-
-// Fills a buffer from a reader, and answers how many bytes came before it was full or the reader ended.
-fn read_full<R: Read>(reader: &mut R, buffer: &mut [u8]) -> io::Result<usize>
-    ensures within { IfOk result (λ n. n ≤ length buffer.new) }
-    ensures bytes { IfOk result (λ n. Consumes (R.remaining reader.old) (R.remaining reader.new) (take n buffer.new)) }
-    ensures end { IfOk result (λ n. n < length buffer.new → IsAtEnd (R.remaining reader.new)) }
-{
-    let mut count = 0;
-    while count < buffer.len() {
-        let more = reader.read(&mut buffer[count..])?;
-        if more == 0 {
-            return Ok(count);
-        }
-        count += more;
-    }
-    Ok(count)
-}
 
 fn main(rt: HostRuntime) -> io::Result<()> {
-    let mut input = [0u8; 65537];
-    let length = read_full(&mut rt.stdin(), &mut input)?;
+    let mut listing = [0u8; 65537];
+    let length = input::read_full(&mut rt.stdin(), &mut listing)?;
     let mut page = [0u8; 16384];
-    let count = printed::trace_text(&input[..length], &mut page);
+    let count = printed::trace_text(&listing[..length], &mut page);
     rt.write_all(&page[..count])
 }

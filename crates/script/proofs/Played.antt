@@ -8,6 +8,7 @@ use borrow.Author.Tests.{le-leb}
 use lib.Dec.{leb}
 use lib.ListN.{length, take, drop}
 use lib.Seq.{take_at}
+use Rattle.std.specs.Prelude.{Ok, Err}
 use Rattle.lines.specs.Lines.{lines}
 use Rattle.lines.specs.Theorems.{start_after}
 use Rattle.machine.specs.Theorem.{reset, load, run, step, view}
@@ -22,7 +23,7 @@ use Rattle.script.specs.declared.Place.{Place}
 use Rattle.script.specs.declared.Place.TheVariants.{Outside, Inside}
 use Rattle.script.specs.declared.Meaning.{Meaning}
 use Rattle.script.specs.declared.Meaning.TheVariants as meaning
-use Rattle.script.specs.declared.ScriptAnswer.TheVariants.{Read, NoRoom}
+use Rattle.script.specs.declared.ScriptError.TheVariants as error
 use Rattle.script.proofs.Writes.{not_calls, numbers_length}
 use Rattle.script.proofs.Theorems.{Bounded, command_fair, Before, lines_bytes}
 
@@ -116,14 +117,14 @@ pub script_played : ScriptPlayed
 script_played text old count = by (script_of text) refl
   where
     room : (cs : List script.Call) → script_of text ≡ calls cs → (fits : Bool)
-        → (cond fits (gave (Read (length cs)) (numbers_of cs ++ drop (3 * length cs) old)) (gave NoRoom old)).answer ≡ Read count
-        → AllReadAs text (take (3 * count) (cond fits (gave (Read (length cs)) (numbers_of cs ++ drop (3 * length cs) old)) (gave NoRoom old)).calls) (meant text free 0 (lines text))
+        → (cond fits (gave (Ok (length cs)) (numbers_of cs ++ drop (3 * length cs) old)) (gave (Err error.NoRoom) old)).answer ≡ Ok count
+        → AllReadAs text (take (3 * count) (cond fits (gave (Ok (length cs)) (numbers_of cs ++ drop (3 * length cs) old)) (gave (Err error.NoRoom) old)).calls) (meant text free 0 (lines text))
     room cs e true r =
         let many : length cs ≡ count = cc in
         rw (← many, take_at (numbers_of cs) (drop (3 * length cs) old) (3 * length cs) (numbers_length cs)) (all_played text cs e)
     room cs e false r = let z : ◌≡◌ {A = ℕ} 0 1 = cc in absurd (omega arith)
 
-    by : (x : Script) → script_of text ≡ x → (script_read x old).answer ≡ Read count
+    by : (x : Script) → script_of text ≡ x → (script_read x old).answer ≡ Ok count
         → AllReadAs text (take (3 * count) (script_read x old).calls) (meant text free 0 (lines text))
     by (calls cs) e r = room cs e (leb (3 * length cs) (length old)) r
     by (unreadable number) e r = let z : ◌≡◌ {A = ℕ} 0 1 = cc in absurd (omega arith)

@@ -8,6 +8,7 @@ use native.Mathlib.Omega.{arith}
 use borrow.Author.Tests.{leb-true, le-leb, ltb-true, lt-ltb, eqb-true}
 use lib.Dec.{eqb, leb, ltb}
 use lib.ListN.{length, drop, replicate}
+use Rattle.std.specs.Prelude.{Option, Some, None}
 use Rattle.lines.specs.Lines.{space, after_spaces, ends, byte_at, number_at}
 use Rattle.lines.specs.Theorems.{Writes}
 use Rattle.lines.proofs.Grammar.{spaces_of, spaces_passed, Ending, to_ending, from_ending}
@@ -16,9 +17,7 @@ use Rattle.script.specs.Script.{is_load, is_end}
 use Rattle.script.specs.Said.{AllDigits, written, EndLine, DecimalLast, RunLine, ListingLine, RunExactly, ListingExactly, WordLine, WordsExactly, LoadExactly}
 use Rattle.script.specs.declared.Command.{Command}
 use Rattle.script.specs.declared.Command.TheVariants.{Blank, Reset, Load, End, Run, Step, View, Listing, Unknown}
-use Rattle.script.specs.declared.Decimal.{Decimal}
-use Rattle.script.specs.declared.Decimal.TheVariants.{Value, NoValue}
-use Rattle.script.proofs.Decimals.{digit_range, no_digits}
+use Rattle.script.proofs.Decimals.{digit_range, no_digit}
 
 -- the end of a line
 to_end : (t : List ℕ) → ends t ≡ true → EndLine t
@@ -31,16 +30,16 @@ end_there : (t : List ℕ) → EndLine t → ends t ≡ true
 end_there t (k, rest, ending, whole) = rw whole (from_end k rest ending)
 
 -- a number that is read has 32 bits, and the line ends behind it
-value_read : (n v : ℕ) (ended : Bool) → value_of n ended ≡ Value v → (n ≡ v) × (v ≤ 4294967295) × (ended ≡ true)
+value_read : (n v : ℕ) (ended : Bool) → value_of n ended ≡ Some v → (n ≡ v) × (v ≤ 4294967295) × (ended ≡ true)
 unfolding value_of
 value_read n v ended = by (leb n 4294967295) refl ended where
-  by : (p : Bool) → leb n 4294967295 ≡ p → (q : Bool) → cond (p && q) (Value n) NoValue ≡ Value v
+  by : (p : Bool) → leb n 4294967295 ≡ p → (q : Bool) → cond (p && q) (Some n) None ≡ Some v
       → (n ≡ v) × (v ≤ 4294967295) × (q ≡ true)
   by true p true e = let s : n ≡ v = cc in (s, omega (arith, leb-true n 4294967295 p, s), refl)
   by true p false e = let z : ◌≡◌ {A = ℕ} 0 1 = cc in absurd (omega arith)
   by false p q e = let z : ◌≡◌ {A = ℕ} 0 1 = cc in absurd (omega arith)
 
-value_there : (n : ℕ) → n ≤ 4294967295 → value_of n true ≡ Value n
+value_there : (n : ℕ) → n ≤ 4294967295 → value_of n true ≡ Some n
 unfolding value_of
 value_there n h = rw (le-leb n 4294967295 h)
 
@@ -54,7 +53,7 @@ record Rest (n : ℕ) (t : List ℕ) (v : ℕ) : Type 0 where
   ending : EndLine end
   whole : t ≡ digits ++ end
 
-over : (n v : ℕ) (t : List ℕ) → value_of n (ends t) ≡ Value v → Rest n t v
+over : (n v : ℕ) (t : List ℕ) → value_of n (ends t) ≡ Some v → Rest n t v
 unfolding AllDigits written
 over n v t e =
     let r = value_read n v (ends t) e in
@@ -74,20 +73,20 @@ one_more n b v t d r =
       whole = ap (λ (l : List ℕ). b ∷ l) r.whole;
     }
 
-digits_read : (n v : ℕ) (t : List ℕ) → decimal_from n t ≡ Value v → Rest n t v
+digits_read : (n v : ℕ) (t : List ℕ) → decimal_from n t ≡ Some v → Rest n t v
 unfolding decimal_from after_spaces
 digits_read n v [] e = over n v [] e
 digits_read n v (b ∷ t) e = by (is_digit b) refl e (digits_read (n * 10 + (b - 48)) v t) where
-  by : (d : Bool) → is_digit b ≡ d → cond d (decimal_from (n * 10 + (b - 48)) t) (value_of n (ends (b ∷ t))) ≡ Value v
-      → (decimal_from (n * 10 + (b - 48)) t ≡ Value v → Rest (n * 10 + (b - 48)) t v) → Rest n (b ∷ t) v
+  by : (d : Bool) → is_digit b ≡ d → cond d (decimal_from (n * 10 + (b - 48)) t) (value_of n (ends (b ∷ t))) ≡ Some v
+      → (decimal_from (n * 10 + (b - 48)) t ≡ Some v → Rest (n * 10 + (b - 48)) t v) → Rest n (b ∷ t) v
   by true d e ih = one_more n b v t d (ih e)
   by false d e ih = over n v (b ∷ t) e
 
-decimal_read : (t : List ℕ) (v : ℕ) → decimal_of t ≡ Value v → DecimalLast t v
+decimal_read : (t : List ℕ) (v : ℕ) → decimal_of t ≡ Some v → DecimalLast t v
 unfolding decimal_of decimal_from one_more
-decimal_read [] v e = let q = no_digits [] refl in let z : ◌≡◌ {A = ℕ} 0 1 = cc in absurd (omega arith)
+decimal_read [] v e = let q = no_digit [] refl in let z : ◌≡◌ {A = ℕ} 0 1 = cc in absurd (omega arith)
 decimal_read (b ∷ t) v e = by (is_digit b) refl e where
-  by : (d : Bool) → is_digit b ≡ d → cond d (decimal_from 0 (b ∷ t)) NoValue ≡ Value v → DecimalLast (b ∷ t) v
+  by : (d : Bool) → is_digit b ≡ d → cond d (decimal_from 0 (b ∷ t)) None ≡ Some v → DecimalLast (b ∷ t) v
   by true d e =
       let r = one_more 0 b v t d (digits_read (0 * 10 + (b - 48)) v t (rw d at e)) in
       record {
@@ -115,7 +114,7 @@ unfolding is_digit
 a_digit b h k = rw (le-leb 48 b h, le-leb b 57 k)
 
 digits_there : (n v : ℕ) (digits end : List ℕ) → AllDigits digits → written n digits ≡ v → v ≤ 4294967295 → EndLine end
-    → decimal_from n (digits ++ end) ≡ Value v
+    → decimal_from n (digits ++ end) ≡ Some v
 unfolding AllDigits written decimal_from
 digits_there n v [] end all e h (k, rest, ending, whole) =
     rw (whole, no_more n k rest ending, from_end k rest ending, e) (value_there v h)
@@ -123,13 +122,13 @@ digits_there n v (b ∷ digits) end (l, m, all) e h t =
     rw (a_digit b l m) (digits_there (n * 10 + (b - 48)) v digits end all e h t)
 
 decimal_there : (v : ℕ) (digits end : List ℕ) → 1 ≤ length digits → AllDigits digits → written 0 digits ≡ v → v ≤ 4294967295
-    → EndLine end → decimal_of (digits ++ end) ≡ Value v
+    → EndLine end → decimal_of (digits ++ end) ≡ Some v
 unfolding AllDigits decimal_of
 decimal_there v [] end some all e h t = absurd (omega arith)
 decimal_there v (b ∷ digits) end some all e h t =
     rw (a_digit b all.0 all.1) (digits_there 0 v (b ∷ digits) end all e h t)
 
-decimal_back : (t : List ℕ) (v : ℕ) → DecimalLast t v → decimal_of t ≡ Value v
+decimal_back : (t : List ℕ) (v : ℕ) → DecimalLast t v → decimal_of t ≡ Some v
 decimal_back t v r = rw r.whole (decimal_there v r.digits r.end r.some r.all r.value r.small r.ending)
 
 -- a line that begins with a word is the word and the rest
@@ -166,14 +165,14 @@ Told line View = WordLine (118 ∷ 105 ∷ 101 ∷ 119 ∷ []) line
 Told line (Listing first count) = ListingLine line first count
 Told line Unknown = Unit
 
-run_told : (line text : List ℕ) (d : Decimal) → decimal_of text ≡ d → line ≡ run_word ++ text → Told line (run_of d)
-run_told line text (Value v) e w = record { text = text; number = decimal_read text v e; whole = w }
-run_told line text NoValue e w = tt
+run_told : (line text : List ℕ) (d : Option ℕ) → decimal_of text ≡ d → line ≡ run_word ++ text → Told line (run_of d)
+run_told line text (Some v) e w = record { text = text; number = decimal_read text v e; whole = w }
+run_told line text None e w = tt
 
-listing_told : (line t : List ℕ) (d : Decimal) → decimal_of (drop 5 t) ≡ d → line ≡ listing_word ++ t
+listing_told : (line t : List ℕ) (d : Option ℕ) → decimal_of (drop 5 t) ≡ d → line ≡ listing_word ++ t
     → Told line (listing_of (number_at t 0) (byte_at t 4) d)
-listing_told line t NoValue e w = tt
-listing_told line t (Value count) e w = by (ltb (number_at t 0) 65536) refl (eqb (byte_at t 4) space) refl where
+listing_told line t None e w = tt
+listing_told line t (Some count) e w = by (ltb (number_at t 0) 65536) refl (eqb (byte_at t 4) space) refl where
   by : (p : Bool) → ltb (number_at t 0) 65536 ≡ p → (q : Bool) → eqb (byte_at t 4) space ≡ q
       → Told line (cond (p && q) (Listing (number_at t 0) count) Unknown)
   by true p true q =
@@ -222,7 +221,7 @@ reads : (line : List ℕ) (k : Command) → command_of line ≡ k → Told line 
 reads line k e = subst (Told line) e (told line)
 
 -- and back: the bytes of a word decide
-listing_there : (address text : List ℕ) (first count : ℕ) → Writes address first → decimal_of text ≡ Value count
+listing_there : (address text : List ℕ) (first count : ℕ) → Writes address first → decimal_of text ≡ Some count
     → listing_at (address ++ (32 ∷ text)) ≡ Listing first count
 unfolding listing_at number_at
 listing_there [] text first count w e = absurd (omega (arith, w.0))

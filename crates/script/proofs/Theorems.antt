@@ -8,6 +8,7 @@ use native.Mathlib.Omega.{arith}
 use borrow.Author.Tests.{ltb-true}
 use lib.Dec.{eqb, ltb, lit≤}
 use lib.ListN.{length, drop}
+use Rattle.std.specs.Prelude.{Option, Some, None}
 use Rattle.lines.specs.Lines.{line_feed, space, prepend, lines, ends, byte_at, number_at}
 use Rattle.lines.specs.Theorems.{start_after}
 use Rattle.script.specs.Commands.{reset_word, load_word, end_word, step_word, view_word, run_word, listing_word, begins, says, decimal_of, run_of, listing_of, listing_at, with_numbers, command_of}
@@ -15,8 +16,6 @@ use Rattle.script.specs.Script.{meaning_of, place_after, Call, call, Script, cal
 use Rattle.script.specs.Theorems.{FewCalls, IsCall, AllCalls, EachIsCall}
 use Rattle.script.specs.declared.Command.{Command}
 use Rattle.script.specs.declared.Command.TheVariants.{Blank, Reset, Load, End, Run, Step, View, Listing, Unknown}
-use Rattle.script.specs.declared.Decimal.{Decimal}
-use Rattle.script.specs.declared.Decimal.TheVariants.{Value, NoValue}
 use Rattle.script.specs.declared.Place.{Place}
 use Rattle.script.specs.declared.Place.TheVariants.{Outside, Inside}
 use Rattle.script.proofs.Words.{begins_length}
@@ -59,9 +58,9 @@ when : (b : Bool) {x y : Command} {n : ℕ} → (b ≡ true → Fair x n) → Fa
 when true f g = f refl
 when false f g = g
 
-run_fair : (d : Decimal) {n : ℕ} → Small d → 4 ≤ n → Fair (run_of d) n
-run_fair (Value v) s h = record { long = h; small = s }
-run_fair NoValue {n} s h = none n
+run_fair : (d : Option ℕ) {n : ℕ} → Small d → 4 ≤ n → Fair (run_of d) n
+run_fair (Some v) s h = record { long = h; small = s }
+run_fair None {n} s h = none n
 
 says_length : (word line : List ℕ) → says word line ≡ true → length word ≤ length line
 unfolding says
@@ -70,9 +69,9 @@ says_length word line = by (begins word line) refl where
   by true e t = begins_length word line e
   by false e t = let z : ◌≡◌ {A = ℕ} 0 1 = cc in absurd (omega arith)
 
-listing_fair : (first between : ℕ) (d : Decimal) {n : ℕ} → Small d → 4 ≤ n → Fair (listing_of first between d) n
-listing_fair first between NoValue {n} s h = none n
-listing_fair first between (Value count) {n} s h = by (ltb first 65536) refl (eqb between space) where
+listing_fair : (first between : ℕ) (d : Option ℕ) {n : ℕ} → Small d → 4 ≤ n → Fair (listing_of first between d) n
+listing_fair first between None {n} s h = none n
+listing_fair first between (Some count) {n} s h = by (ltb first 65536) refl (eqb between space) where
   by : (p : Bool) → ltb first 65536 ≡ p → (q : Bool) → Fair (cond (p && q) (Listing first count) Unknown) n
   by true e true = record { long = h; small = (omega (arith, ltb-true first 65536 e), s) }
   by true e false = none n

@@ -1,33 +1,25 @@
--- Words at the front of a line, a byte further at a time. Assumes nothing.
-use mathlib.Core.Path.{◌≡◌}
-use mathlib.Core.Bool.{Bool, true, false, cond}
+-- Words at the front of a line. Assumes nothing.
+use mathlib.Core.Path.{◌≡◌, refl, sym, ◌∙◌}
+use mathlib.Core.Bool.{Bool, true, false, cond, ◌&&◌}
 use mathlib.Core.List.{List, [], ◌∷◌}
-use Prim.Native.Nat.{ℕ, suc, ◌+◌, ◌≤◌, ◌<◌}
-use native.Mathlib.Numerals.{add-one}
+use Prim.Native.Nat.{ℕ, suc, ◌≤◌}
 use native.Mathlib.Omega.{arith}
-use borrow.Author.Tests.{eq-eqb, ne_eqb}
 use lib.Dec.{eqb}
-use lib.ListN.{length, get_or, drop, drop_of_length-le}
-use lib.Seq.{drop-cons}
-use Rattle.script.specs.Commands.{begins}
+use lib.ListN.{length, take, drop}
+use lib.Pointwise.{pointwise}
+use Rattle.script.specs.Commands.{run_word, listing_word, begins, decimal_of, run_of, listing_at, with_numbers}
+use Rattle.script.specs.declared.Command.TheVariants.{Unknown}
 
-module _ (word line : List ℕ) (i : ℕ) where
-  pub begins_further : i < length word → i < length line → get_or line i 0 ≡ get_or word i 0
-      → begins (drop i word) (drop i line) ≡ begins (drop (i + 1) word) (drop (i + 1) line)
-  unfolding begins
-  begins_further h k e = rw (add-one, drop-cons word i 0 h, drop-cons line i 0 k, eq-eqb (get_or line i 0) (get_or word i 0) e)
-
-  pub begins_other : i < length word → i < length line → (get_or line i 0 ≡ get_or word i 0 → ⊥) → begins (drop i word) (drop i line) ≡ false
-  unfolding begins
-  begins_other h k e = rw (drop-cons word i 0 h, drop-cons line i 0 k, ne_eqb (get_or line i 0) (get_or word i 0) e)
-
-  pub begins_short : i < length word → length line ≤ i → begins (drop i word) (drop i line) ≡ false
-  unfolding begins
-  begins_short h k = rw (drop-cons word i 0 h, drop_of_length-le line k)
-
-  pub begins_all : length word ≤ i → begins (drop i word) (drop i line) ≡ true
-  unfolding begins
-  begins_all h = rw (drop_of_length-le word h)
+-- as the library compares the front of a line with a word
+pub begins_there : (word line : List ℕ) → pointwise eqb (take (length word) line) word ≡ begins word line
+unfolding begins
+begins_there [] line = refl
+begins_there (w ∷ word) [] = refl
+begins_there (w ∷ word) (b ∷ line) = by (eqb b w) (begins_there word line) where
+  by : (t : Bool) → pointwise eqb (take (length word) line) word ≡ begins word line
+      → t && pointwise eqb (take (length word) line) word ≡ cond t (begins word line) false
+  by true e = e
+  by false e = refl
 
 pub begins_length : (word line : List ℕ) → begins word line ≡ true → length word ≤ length line
 unfolding begins
@@ -38,3 +30,18 @@ begins_length (w ∷ word) (b ∷ line) e = by (eqb b w) e (begins_length word l
       → suc (length word) ≤ suc (length line)
   by true e ih = omega (arith, ih e)
   by false e ih = let z : ◌≡◌ {A = ℕ} 0 1 = cc in absurd (omega arith)
+
+-- by the word that a line begins with
+module _ (line : List ℕ) where
+  pub with_run : (rest : List ℕ) → pointwise eqb (take 4 line) run_word ≡ true → rest ≡ drop 4 line → run_of (decimal_of rest) ≡ with_numbers line
+  unfolding with_numbers
+  with_run rest e r = rw (sym (begins_there run_word line) ∙ e, r) refl
+
+  pub with_listing : (rest : List ℕ) → pointwise eqb (take 4 line) run_word ≡ false → pointwise eqb (take 8 line) listing_word ≡ true
+      → rest ≡ drop 8 line → listing_at rest ≡ with_numbers line
+  unfolding with_numbers
+  with_listing rest d e r = rw (sym (begins_there run_word line) ∙ d, sym (begins_there listing_word line) ∙ e, r) refl
+
+  pub with_neither : pointwise eqb (take 4 line) run_word ≡ false → pointwise eqb (take 8 line) listing_word ≡ false → Unknown ≡ with_numbers line
+  unfolding with_numbers
+  with_neither d e = rw (sym (begins_there run_word line) ∙ d, sym (begins_there listing_word line) ∙ e) refl

@@ -1,22 +1,17 @@
 -- The calls of a script written one after the other; and what reading a script gives, by its verdict. Assumes nothing.
 use mathlib.Core.Path.{◌≡◌, refl, sym, ap, subst, ◌∙◌}
-use mathlib.Core.Bool.{Bool, true, false, cond}
 use mathlib.Core.List.{List, [], ◌∷◌, ◌++◌}
-use Prim.Native.Nat.{ℕ, ◌+◌, ◌*◌, ◌/◌, ◌≤◌, ◌<◌}
+use Prim.Native.Nat.{ℕ, ◌+◌, ◌*◌, ◌≤◌}
 use native.Mathlib.Omega.{arith}
-use borrow.Author.Tests.{leb-true, le-leb, lt-leb}
-use lib.Dec.{leb}
 use lib.ListN.{length, drop}
 use lib.Seq.{sets, sets-eq, length-sets}
-use Rattle.script.specs.Script.{Call, call, Script, calls, unreadable, followed, at_end, script_of, numbers_of, Given, gave, script_read}
-use Rattle.script.specs.ScriptParts.{script_at, verdict_of, calls_in, put, Fits, calls_written}
+use Rattle.script.specs.Script.{Call, call, Script, calls, unreadable, followed, at_end, script_of, numbers_of}
+use Rattle.script.specs.ScriptParts.{script_at, calls_in, put, Fits, calls_written}
 use Rattle.script.specs.declared.Place.{Place}
 use Rattle.script.specs.declared.Place.TheVariants.{Outside, Inside}
 use Rattle.script.specs.declared.LineStart.{LineStart}
 use Rattle.script.specs.declared.Meaning.{Meaning}
 use Rattle.script.specs.declared.Meaning.TheVariants as meaning
-use Rattle.script.specs.declared.ScriptAnswer.{ScriptAnswer}
-use Rattle.script.specs.declared.ScriptAnswer.TheVariants as answer
 
 pub not_calls : {number : ℕ} {cs : List Call} → unreadable number ≡ calls cs → ⊥
 not_calls e = let z : ◌≡◌ {A = ℕ} 0 1 = cc in omega arith
@@ -95,48 +90,3 @@ module _ {text old : List ℕ} {start : LineStart} {to : ℕ} {list : List ℕ} 
     by : (p : Place) → at_end p ≡ calls r.left → list ≡ calls_written (script_of text) old
     by Outside q = let none : r.left ≡ [] = cc in sym (r.gives ∙ ap (λ (cs : List Call). sets list to (numbers_of cs)) none)
     by (Inside n from) q = absurd (not_calls q)
-
--- by the verdict
-read_count : (cs : List Call) {count : ℕ} → verdict_of (calls cs) ≡ answer.Read count → length cs ≡ count
-read_count cs e = cc
-
-not_read : {A : Type 0} {count number : ℕ} → answer.Unreadable number ≡ answer.Read count → A
-not_read e = let z : ◌≡◌ {A = ℕ} 0 1 = cc in absurd (omega arith)
-
-pub no_room : (x : Script) (old : List ℕ) (count : ℕ) → verdict_of x ≡ answer.Read count → length old / 3 < count → gave answer.NoRoom old ≡ script_read x old
-no_room (calls cs) old count e h = rw (lt-leb (3 * length cs) (length old) (omega (arith, read_count cs e)))
-no_room (unreadable k) old count e h = not_read e
-
-pub fits_when : (x : Script) (old : List ℕ) (count : ℕ) → verdict_of x ≡ answer.Read count → count ≤ length old / 3 → Fits x (length old)
-fits_when (calls cs) old count e h = omega (arith, read_count cs e)
-fits_when (unreadable k) old count e h = not_read e
-
-pub as_written : (x : Script) (old : List ℕ) (count : ℕ) → verdict_of x ≡ answer.Read count → count ≤ length old / 3
-    → gave (answer.Read count) (calls_written x old) ≡ script_read x old
-as_written (calls cs) old count e h = rw (le-leb (3 * length cs) (length old) (omega (arith, read_count cs e)), read_count cs e)
-as_written (unreadable k) old count e h = not_read e
-
-pub as_unreadable : (x : Script) (old : List ℕ) (number : ℕ) → verdict_of x ≡ answer.Unreadable number → gave (answer.Unreadable number) old ≡ script_read x old
-as_unreadable (calls cs) old number e = not_read (sym e)
-as_unreadable (unreadable k) old number e = ap (λ (a : ScriptAnswer). gave a old) (sym e)
-
-pub never_no_room : (x : Script) → verdict_of x ≡ answer.NoRoom → ⊥
-never_no_room (calls cs) e = let z : ◌≡◌ {A = ℕ} 0 1 = cc in omega arith
-never_no_room (unreadable k) e = let z : ◌≡◌ {A = ℕ} 0 1 = cc in omega arith
-
--- as many calls as are answered fit
-abbrev pub CountFits : ScriptAnswer → ℕ → Type 0
-CountFits (answer.Read count) size = 3 * count ≤ size
-CountFits (answer.Unreadable number) size = Unit
-CountFits answer.NoRoom size = Unit
-
-answer_fits : (x : Script) (old : List ℕ) → CountFits (script_read x old).answer (length old)
-answer_fits (calls cs) old = by (leb (3 * length cs) (length old)) refl where
-  by : (b : Bool) → leb (3 * length cs) (length old) ≡ b
-      → CountFits (cond b (gave (answer.Read (length cs)) (numbers_of cs ++ drop (3 * length cs) old)) (gave answer.NoRoom old)).answer (length old)
-  by true e = leb-true (3 * length cs) (length old) e
-  by false e = tt
-answer_fits (unreadable number) old = tt
-
-pub count_fits : (x : Script) (old list : List ℕ) (r : ScriptAnswer) → gave r list ≡ script_read x old → CountFits r (length old)
-count_fits x old list r e = subst (λ (a : ScriptAnswer). CountFits a (length old)) (sym (ap (λ (g : Given). g.answer) e)) (answer_fits x old)

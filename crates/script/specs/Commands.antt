@@ -2,12 +2,10 @@
 -- 4,294,967,295); or `listing`, one space, an address in four hexadecimal digits of either case, one space and such a number. Its word stands at
 -- its first byte, in lower case; behind all come spaces or none, then nothing or `;` and a comment. A line without a word is skipped. CR and tab
 -- are no spaces. A line is the list of its bytes, without its LF.
-use Rattle.std.specs.Prelude.{Bool, true, false, cond, ◌&&◌, List, [], ◌∷◌, ℕ, ◌+◌, ◌-◌, ◌*◌, eqb, leb, ltb, length, get_or, drop}
+use Rattle.std.specs.Prelude.{Bool, true, false, cond, ◌&&◌, List, [], ◌∷◌, ℕ, ◌+◌, ◌-◌, ◌*◌, eqb, leb, ltb, length, get_or, drop, Option, Some, None}
 use Rattle.lines.specs.Lines.{space, ends, byte_at, number_at}
 use Rattle.script.specs.declared.Command.{Command}
 use Rattle.script.specs.declared.Command.TheVariants.{Blank, Reset, Load, End, Run, Step, View, Listing, Unknown}
-use Rattle.script.specs.declared.Decimal.{Decimal}
-use Rattle.script.specs.declared.Decimal.TheVariants.{Value, NoValue}
 
 -- the words, in ASCII: `reset`, `load`, `end`, `step`, `view`, and `run` and `listing` with their spaces
 abbrev pub reset_word : List ℕ
@@ -46,27 +44,27 @@ unfoldable pub is_digit : ℕ → Bool
 is_digit b = leb 48 b && leb b 57
 
 -- a number of 32 bits, its digits followed by the end of a line as above
-unfoldable pub value_of : ℕ → Bool → Decimal
-value_of n ended = cond (leb n 4294967295 && ended) (Value n) NoValue
+unfoldable pub value_of : ℕ → Bool → Option ℕ
+value_of n ended = cond (leb n 4294967295 && ended) (Some n) None
 
 -- the digits on from a value read so far
-unfoldable pub decimal_from : ℕ → List ℕ → Decimal
+unfoldable pub decimal_from : ℕ → List ℕ → Option ℕ
 decimal_from n [] = value_of n true
 decimal_from n (b ∷ t) = cond (is_digit b) (decimal_from (n * 10 + (b - 48)) t) (value_of n (ends (b ∷ t)))
 
 -- a digit or more; the byte 0, which is no digit, stands for the one past the end
-unfoldable pub decimal_of : List ℕ → Decimal
-decimal_of t = cond (is_digit (get_or t 0 0)) (decimal_from 0 t) NoValue
+unfoldable pub decimal_of : List ℕ → Option ℕ
+decimal_of t = cond (is_digit (get_or t 0 0)) (decimal_from 0 t) None
 
 -- a run, by its budget
-abbrev pub run_of : Decimal → Command
-run_of (Value n) = Run n
-run_of NoValue = Unknown
+abbrev pub run_of : Option ℕ → Command
+run_of (Some n) = Run n
+run_of None = Unknown
 
 -- a listing, by its address (65,536 where there are not four digits), the byte behind it and its count
-abbrev pub listing_of : ℕ → ℕ → Decimal → Command
-listing_of first between (Value count) = cond (ltb first 65536 && eqb between space) (Listing first count) Unknown
-listing_of first between NoValue = Unknown
+abbrev pub listing_of : ℕ → ℕ → Option ℕ → Command
+listing_of first between (Some count) = cond (ltb first 65536 && eqb between space) (Listing first count) Unknown
+listing_of first between None = Unknown
 
 -- what follows `listing` and its space: the address at places 0 to 3, the byte behind it at 4, the count from 5 on
 unfoldable pub listing_at : List ℕ → Command

@@ -1,7 +1,7 @@
 -- What the numbers of a script are: to `replay::replay` the calls that its lines say; and the listings that they ask for. One statement,
 -- `ScriptPlayed`, proved in proofs/Played.antt. Its definitions up to `meant` know nothing of numbers: a call is one of the theorem over
 -- lists.
-use Rattle.std.specs.Prelude.{◌≡◌, cond, List, [], ◌∷◌, ◌++◌, ℕ, ◌+◌, ◌-◌, ◌*◌, length, take, drop}
+use Rattle.std.specs.Prelude.{◌≡◌, cond, List, [], ◌∷◌, ◌++◌, ℕ, ◌+◌, ◌-◌, ◌*◌, length, take, drop, Ok}
 use Rattle.lines.specs.Lines.{lines}
 use Rattle.machine.specs.Theorem.{Call, reset, load, run, step, view}
 use Rattle.replay.specs.Replay.{listed, read_calls}
@@ -9,7 +9,6 @@ use Rattle.script.specs.Commands.{command_of}
 use Rattle.script.specs.Script.{is_load, is_end, script_of, Given, script_read}
 use Rattle.script.specs.declared.Command.{Command}
 use Rattle.script.specs.declared.Command.TheVariants.{Blank, Reset, Load, End, Run, Step, View, Listing, Unknown}
-use Rattle.script.specs.declared.ScriptAnswer.TheVariants.{Read}
 
 -- what a line asks for: a call of the theorem over lists, or a listing of so many words from an address on
 pub data Asked : Type 0 where
@@ -71,4 +70,4 @@ abbrev pub ScriptPlayed : Type 0
 ScriptPlayed =
     (text old : List ℕ) (count : ℕ)
     → let given : Given = script_read (script_of text) old in
-    given.answer ≡ Read count → AllReadAs text (take (3 * count) given.calls) (meant text free 0 (lines text))
+    given.answer ≡ Ok count → AllReadAs text (take (3 * count) given.calls) (meant text free 0 (lines text))

@@ -1,6 +1,6 @@
 -- Scripts: the calls that the lines of a text are, as `replay::replay` takes them, and listings among them. The contract of `read` is an
 -- equation with `script_read`.
-use Rattle.std.specs.Prelude.{Bool, true, false, cond, List, [], ◌∷◌, ◌++◌, ℕ, ◌+◌, ◌*◌, leb, length, drop}
+use Rattle.std.specs.Prelude.{Bool, true, false, cond, List, [], ◌∷◌, ◌++◌, ℕ, ◌+◌, ◌*◌, leb, length, drop, Result, Ok, Err}
 use Rattle.lines.specs.Lines.{lines}
 use Rattle.script.specs.Commands.{command_of}
 use Rattle.script.specs.declared.Command.{Command}
@@ -9,8 +9,8 @@ use Rattle.script.specs.declared.Place.{Place}
 use Rattle.script.specs.declared.Place.TheVariants.{Outside, Inside}
 use Rattle.script.specs.declared.Meaning.{Meaning}
 use Rattle.script.specs.declared.Meaning.TheVariants as meaning
-use Rattle.script.specs.declared.ScriptAnswer.{ScriptAnswer}
-use Rattle.script.specs.declared.ScriptAnswer.TheVariants as answer
+use Rattle.script.specs.declared.ScriptError.{ScriptError}
+use Rattle.script.specs.declared.ScriptError.TheVariants as error
 
 -- outside a load a line is a call or nothing, or cannot be read; a load is a call only once its `end` is there. The cases below 100 are
 -- those of `replay::replay`; from 100 on a case is the script's own
@@ -109,15 +109,15 @@ numbers_of (call kind first second ∷ rest) = kind ∷ first ∷ second ∷ num
 
 -- what reading a script gives back: its answer, and the lent calls as they then are
 pub record Given : Type 0 where
-  pub answer : ScriptAnswer
+  pub answer : Result ℕ ScriptError
   pub calls : List ℕ
 
-abbrev pub gave : ScriptAnswer → List ℕ → Given
+abbrev pub gave : Result ℕ ScriptError → List ℕ → Given
 gave a numbers = record { answer = a; calls = numbers }
 
 -- calls that fit are written from the first place on, and what is past them stays; else nothing changes
 abbrev pub script_read : Script → List ℕ → Given
 script_read (calls cs) old =
-    cond (leb (3 * length cs) (length old)) (gave (answer.Read (length cs)) (numbers_of cs ++ drop (3 * length cs) old))
-    (gave answer.NoRoom old)
-script_read (unreadable number) old = gave (answer.Unreadable number) old
+    cond (leb (3 * length cs) (length old)) (gave (Ok (length cs)) (numbers_of cs ++ drop (3 * length cs) old))
+    (gave (Err error.NoRoom) old)
+script_read (unreadable number) old = gave (Err (error.Unreadable number)) old

@@ -1,5 +1,5 @@
 -- Only contracts of private functions and proofs cite this: how `read` goes, line by line.
-use Rattle.std.specs.Prelude.{List, [], ◌∷◌, ◌++◌, ℕ, ◌+◌, ◌*◌, ◌≤◌, length, drop}
+use Rattle.std.specs.Prelude.{List, [], ◌∷◌, ◌++◌, ℕ, ◌+◌, ◌*◌, ◌≤◌, length, drop, Result, Ok, Err}
 use Rattle.std.proofs.lemmas.List.Edits.{sets}
 use Rattle.lines.specs.Lines.{lines}
 use Rattle.script.specs.Script.{Script, calls, unreadable, script_from, numbers_of}
@@ -8,8 +8,8 @@ use Rattle.script.specs.declared.Place.TheVariants.{Outside, Inside}
 use Rattle.script.specs.declared.LineStart.{LineStart}
 use Rattle.script.specs.declared.Meaning.{Meaning}
 use Rattle.script.specs.declared.Meaning.TheVariants as meaning
-use Rattle.script.specs.declared.ScriptAnswer.{ScriptAnswer}
-use Rattle.script.specs.declared.ScriptAnswer.TheVariants as answer
+use Rattle.script.specs.declared.ScriptError.{ScriptError}
+use Rattle.script.specs.declared.ScriptError.TheVariants as error
 
 -- the script that the lines from a start on are
 abbrev pub script_at : List ℕ → LineStart → Script
@@ -21,13 +21,13 @@ abbrev pub Within : List ℕ → LineStart → Type 0
 Within text start = (start.at ≤ length text + 1) × (start.number ≤ start.at + 1)
 
 -- what a script is found to be before anything is written
-abbrev pub verdict_of : Script → ScriptAnswer
-verdict_of (calls cs) = answer.Read (length cs)
-verdict_of (unreadable number) = answer.Unreadable number
+abbrev pub verdict_of : Script → Result ℕ ScriptError
+verdict_of (calls cs) = Ok (length cs)
+verdict_of (unreadable number) = Err (error.Unreadable number)
 
-abbrev pub at_end_answer : Place → ℕ → ScriptAnswer
-at_end_answer Outside count = answer.Read count
-at_end_answer (Inside number from) count = answer.Unreadable number
+abbrev pub at_end_answer : Place → ℕ → Result ℕ ScriptError
+at_end_answer Outside count = Ok count
+at_end_answer (Inside number from) count = Err (error.Unreadable number)
 
 abbrev pub calls_in : Meaning → ℕ
 calls_in meaning.Nothing = 0

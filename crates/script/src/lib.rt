@@ -1,9 +1,9 @@
 // Scripts: calls as lines of text, read into the numbers that replay::replay takes, and listings among them.
 #![tactic(auto)]
 
-ghost use Rattle.std.specs.Prelude.{◌≡◌, ◌+◌, ◌*◌, ◌≤◌, ◌<◌, length, unwrap_or};
-ghost use Rattle.script.specs.Commands.{begins, says, is_digit, value_of, decimal_of, run_of, listing_of, listing_at, with_numbers, command_of};
-ghost use Rattle.script.specs.Script.{outside, is_load, is_end, inside, meaning_of, after_outside, after_inside, place_after, followed, script_of, gave, script_read};
+ghost use Rattle.std.specs.Prelude.{◌≡◌, true, not, ◌+◌, ◌-◌, ◌*◌, ◌≤◌, ◌<◌, length, position, unwrap_or};
+ghost use Rattle.script.specs.Commands.{says, is_digit, value_of, decimal_of, run_of, listing_at, with_numbers, command_of};
+ghost use Rattle.script.specs.Script.{outside, meaning_of, place_after, followed, script_of, gave, script_read};
 ghost use Rattle.script.specs.ScriptParts.{script_at, Within, verdict_of, at_end_answer, calls_in, put, Fits, calls_written};
 
 // The case of a listing among the numbers of a script: its address and its count follow. The cases of replay::replay are below 100; from
@@ -25,13 +25,6 @@ enum Command {
     Unknown,
 }
 
-// A number in decimal digits, or none that can be read.
-#[derive(Drop)]
-enum Decimal {
-    Value(u32),
-    NoValue,
-}
-
 // Outside a load; or inside one, with the number of its line and the offset at which its listing starts.
 #[derive(Clone, Copy)]
 enum Place {
@@ -43,7 +36,7 @@ enum Place {
 #[derive(Drop)]
 enum Meaning {
     Nothing,
-    Call { kind: u64, first: u64, second: u64 },
+    Call(u64, u64, u64),
     Unreadable,
 }
 
@@ -69,145 +62,95 @@ struct LineRead {
     next: LineStart,
 }
 
-// How many calls a script has; or the number, from 1, of the first line that cannot be read (of a load that is never ended, the line
-// `load`); or that the calls do not fit.
-#[derive(Drop)]
-pub enum ScriptAnswer {
-    Read(usize),
+// Why a script is not read: the number, from 1, of the first line that cannot be read (of a load that is never ended, the line `load`); or
+// that its calls do not fit.
+#[derive(Clone, Copy, PartialEq, Eq)]
+pub enum ScriptError {
     Unreadable(usize),
     NoRoom,
 }
 
-#[tactic(auto, using(crate::proofs::Words::begins_further, crate::proofs::Words::begins_other, crate::proofs::Words::begins_short, crate::proofs::Words::begins_all))]
-fn begins_with(word: &[u8], line: &[u8]) -> bool
-    ensures { result ≡ begins word.now line.now }
-{
-    let mut i = 0;
-    while i < word.len() {
-        if line.len() <= i {
-            return false;
-        }
-        if line[i] != word[i] {
-            return false;
-        }
-        i += 1;
-    }
-    true
-}
-
 // The word, then the end of a line.
-#[tactic(auto, using(crate::proofs::Words::begins_length), unfolding(crate::specs::Commands::says))]
+#[tactic(auto, using(crate::proofs::Words::begins_there), unfolding(crate::specs::Commands::says))]
 fn is_word(word: &[u8], line: &[u8]) -> bool
     ensures { result ≡ says word.now line.now }
 {
-    if begins_with(word, line) {
-        let n = word.len();
-        return lines::line_ends(&line[n..]);
+    match line.strip_prefix(word) {
+        Some(rest) => lines::line_ends(rest),
+        None => false,
     }
-    false
 }
 
+// The place of the first byte that is no decimal digit.
 #[tactic(auto, unfolding(crate::specs::Commands::is_digit))]
-fn is_digit(b: u8) -> bool
-    ensures { result ≡ is_digit b }
+fn first_other(s: &[u8]) -> Option<usize>
+    ensures { result ≡ position (λ b. not (is_digit b)) s.now }
 {
-    if b < 48 {
-        return false;
-    }
-    b <= 57
+    s.iter().position(|b| !b.is_ascii_digit())
 }
 
-// A value, its digits followed by the end of the line or not.
+// How many decimal digits stand at the front.
+#[tactic(auto, using(crate::proofs::Decimals::digits_within))]
+fn count_digits(s: &[u8]) -> usize
+    ensures count { result ≡ unwrap_or (position (λ b. not (is_digit b)) s.now) (length s.now) }
+    ensures fits { result ≤ length s.now }
+{
+    first_other(s).unwrap_or(s.len())
+}
+
+// A value with one digit more behind it, where that has 32 bits.
 #[tactic(auto, unfolding(crate::specs::Commands::value_of))]
-fn value_of(value: u64, ended: bool) -> Decimal
-    ensures { result ≡ value_of value ended }
+fn with_digit(value: u32, digit: u8) -> Option<u32>
+    requires { 48 ≤ digit }
+    ensures { result ≡ value_of (value * 10 + (digit - 48)) true }
 {
-    if 4294967295 < value {
-        return Decimal::NoValue;
-    }
-    if ended {
-        return Decimal::Value(value as u32);
-    }
-    Decimal::NoValue
+    value.checked_mul(10)?.checked_add(u32::from(digit - b'0'))
 }
 
-fn wide(b: u8) -> u64
-    ensures { result ≡ b }
-{
-    b as u64
-}
-
-// Digits, then the end of the line. A value that has grown too large stays so.
-fn read_decimal(s: &[u8]) -> Decimal
+// Digits, then the end of the line, which write a number of 32 bits.
+fn read_decimal(s: &[u8]) -> Option<u32>
     ensures { result ≡ decimal_of s.now }
 {
-    if s.len() == 0 {
-        return Decimal::NoValue;
+    let n = count_digits(s);
+    if n == 0 || !lines::line_ends(&s[n..]) {
+        return None;
     }
-    if !is_digit(s[0]) {
-        return Decimal::NoValue;
+    let mut value = 0;
+    for b in &s[..n] {
+        value = with_digit(value, *b)?;
     }
-    let mut value: u64 = 0;
-    let mut i = 0;
-    while i < s.len() {
-        if !is_digit(s[i]) {
-            return value_of(value, lines::line_ends(&s[i..]));
-        }
-        value = value * 10 + wide(s[i] - 48);
-        if 4294967295 < value {
-            return Decimal::NoValue;
-        }
-        i += 1;
-    }
-    value_of(value, true)
+    Some(value)
 }
 
-fn run_of(budget: Decimal) -> Command
+fn run_of(budget: Option<u32>) -> Command
     ensures { result ≡ run_of budget }
 {
-    match budget {
-        Decimal::Value(n) => Command::Run(n),
-        Decimal::NoValue => Command::Unknown,
-    }
+    budget.map_or(Command::Unknown, Command::Run)
 }
 
-// A listing, given its address, the byte behind it and its count.
-fn listing_of(first: Option<u16>, between: u8, count: Decimal) -> Command
-    ensures { result ≡ listing_of (unwrap_or first 65536) between count }
-{
-    let Decimal::Value(n) = count else {
-        return Command::Unknown;
-    };
-    let Some(first) = first else {
-        return Command::Unknown;
-    };
-    if between != b' ' {
-        return Command::Unknown;
-    }
-    Command::Listing { first, count: n }
-}
-
-// What follows `listing` and its space.
-#[tactic(auto, unfolding(crate::specs::Commands::listing_at, crate::specs::Commands::decimal_of, crate::specs::Commands::is_digit))]
+// What follows `listing` and its space: an address, a space and a count.
+#[tactic(auto, unfolding(crate::specs::Commands::listing_at))]
 fn read_listing(s: &[u8]) -> Command
     ensures { result ≡ listing_at s.now }
 {
-    if s.len() < 5 {
+    if s.len() < 5 || s[4] != b' ' {
         return Command::Unknown;
     }
-    listing_of(lines::front_number(s), s[4], read_decimal(&s[5..]))
+    match (lines::front_number(s), read_decimal(&s[5..])) {
+        (Some(first), Some(count)) => Command::Listing { first, count },
+        _ => Command::Unknown,
+    }
 }
 
 // The commands with numbers behind their word.
-#[tactic(auto, using(crate::proofs::Words::begins_length), unfolding(crate::specs::Commands::with_numbers))]
 fn read_with_numbers(line: &[u8]) -> Command
     ensures { result ≡ with_numbers line.now }
 {
-    if begins_with(b"run ", line) {
-        return run_of(read_decimal(&line[4..]));
+    if let Some(rest) = line.strip_prefix(b"run ") {
+        return run_of(read_decimal(rest));
     }
-    if begins_with(b"listing ", line) {
-        return read_listing(&line[8..]);
+    if let Some(rest) = line.strip_prefix(b"listing ") {
+        return read_listing(rest);
     }
     Command::Unknown
 }
@@ -242,133 +185,48 @@ fn outside_load(command: Command) -> Meaning
     ensures { result ≡ outside command }
 {
     match command {
-        Command::Blank => Meaning::Nothing,
-        Command::Reset => Meaning::Call {
-            kind: 0,
-            first: 0,
-            second: 0,
-        },
-        Command::Load => Meaning::Nothing,
-        Command::End => Meaning::Unreadable,
-        Command::Run(b) => Meaning::Call {
-            kind: 2,
-            first: b as u64,
-            second: 0,
-        },
-        Command::Step => Meaning::Call {
-            kind: 3,
-            first: 0,
-            second: 0,
-        },
-        Command::View => Meaning::Call {
-            kind: 4,
-            first: 0,
-            second: 0,
-        },
-        Command::Listing { first, count } => Meaning::Call {
-            kind: LISTING,
-            first: first as u64,
-            second: count as u64,
-        },
-        Command::Unknown => Meaning::Unreadable,
+        Command::Blank | Command::Load => Meaning::Nothing,
+        Command::Reset => Meaning::Call(0, 0, 0),
+        Command::Run(b) => Meaning::Call(2, u64::from(b), 0),
+        Command::Step => Meaning::Call(3, 0, 0),
+        Command::View => Meaning::Call(4, 0, 0),
+        Command::Listing { first, count } => Meaning::Call(
+            LISTING,
+            u64::from(first),
+            u64::from(count),
+        ),
+        Command::End | Command::Unknown => Meaning::Unreadable,
     }
 }
 
-fn inside_load(closed: bool, from: usize, start: usize) -> Meaning
-    ensures { result ≡ inside closed from start }
-{
-    if closed {
-        return Meaning::Call {
-            kind: 1,
-            first: from as u64,
-            second: start as u64,
-        };
-    }
-    Meaning::Nothing
-}
-
-fn opens(command: Command) -> bool
-    ensures { result ≡ is_load command }
-{
-    match command {
-        Command::Blank => false,
-        Command::Reset => false,
-        Command::Load => true,
-        Command::End => false,
-        Command::Run(_) => false,
-        Command::Step => false,
-        Command::View => false,
-        Command::Listing { first: _, count: _ } => false,
-        Command::Unknown => false,
-    }
-}
-
-fn closes(command: Command) -> bool
-    ensures { result ≡ is_end command }
-{
-    match command {
-        Command::Blank => false,
-        Command::Reset => false,
-        Command::Load => false,
-        Command::End => true,
-        Command::Run(_) => false,
-        Command::Step => false,
-        Command::View => false,
-        Command::Listing { first: _, count: _ } => false,
-        Command::Unknown => false,
-    }
-}
-
+// What a line comes to that starts at an offset.
 fn meaning_of(place: Place, command: Command, start: usize) -> Meaning
     ensures { result ≡ meaning_of place command start }
 {
-    match place {
-        Place::Outside => outside_load(command),
-        Place::Inside { number: _, from } => inside_load(closes(command), from, start),
+    match (place, command) {
+        (Place::Outside, _) => outside_load(command),
+        (Place::Inside { from, .. }, Command::End) => Meaning::Call(1, from as u64, start as u64),
+        (Place::Inside { .. }, _) => Meaning::Nothing,
     }
 }
 
-// Where the next line is, after one outside a load.
-fn place_opened(opened: bool, number: usize, next: usize) -> Place
-    ensures { result ≡ after_outside opened number next }
-{
-    if opened {
-        return Place::Inside {
-            number: number,
-            from: next,
-        };
-    }
-    Place::Outside
-}
-
-// And after one inside.
-fn place_closed(closed: bool, number: usize, from: usize) -> Place
-    ensures { result ≡ after_inside closed number from }
-{
-    if closed {
-        return Place::Outside;
-    }
-    Place::Inside {
-        number: number,
-        from: from,
-    }
-}
-
+// Where the next line is, after one with a number.
 fn place_after(place: Place, command: Command, number: usize, next: usize) -> Place
     ensures { result ≡ place_after place command number next }
 {
-    match place {
-        Place::Outside => place_opened(opens(command), number, next),
-        Place::Inside { number: load, from } => place_closed(closes(command), load, from),
+    match (place, command) {
+        (Place::Outside, Command::Load) => Place::Inside { number, from: next },
+        (Place::Inside { .. }, Command::End) => Place::Outside,
+        _ => place,
     }
 }
 
-fn at_end(place: Place, count: usize) -> ScriptAnswer
+fn at_end(place: Place, count: usize) -> Result<usize, ScriptError>
     ensures { result ≡ at_end_answer place count }
 {
     match place {
-        Place::Outside => ScriptAnswer::Read(count),
-        Place::Inside { number, from: _ } => ScriptAnswer::Unreadable(number),
+        Place::Outside => Ok(count),
+        Place::Inside { number, .. } => Err(ScriptError::Unreadable(number)),
     }
 }
 
@@ -378,48 +236,37 @@ fn read_line(text: &[u8], start: LineStart) -> LineRead
     ensures reads { script_at text.now start ≡ followed result.meaning start.number (script_at text.now result.next) }
     ensures goes { (start.at < result.next.at) × Within text.now result.next }
 {
-    let at = start.at;
-    let number = start.number;
-    let place = start.place;
+    let LineStart { at, number, place } = start;
     let rest = &text[at..];
     let length = lines::line_length(rest);
     let command = read_command(&rest[..length]);
-    let meaning = meaning_of(place, command, at);
     let after = at + length + 1;
-    let next = LineStart {
-        at: after,
-        number: number + 1,
-        place: place_after(place, command, number, after),
-    };
-    LineRead { meaning, next }
+    LineRead {
+        meaning: meaning_of(place, command, at),
+        next: LineStart {
+            at: after,
+            number: number + 1,
+            place: place_after(place, command, number, after),
+        },
+    }
 }
 
-// What a script is, with nothing written yet.
-fn check(text: &[u8]) -> ScriptAnswer
+// What a script is, with nothing written yet. The lines are walked by their starts: what is open at the end decides too.
+fn check(text: &[u8]) -> Result<usize, ScriptError>
     ensures { result ≡ verdict_of (script_of text.now) }
 {
     let mut start = FIRST;
     let mut count = 0;
     while start.at < text.len() {
         let line = read_line(text, start);
-        let meaning = line.meaning;
-        match meaning {
+        match line.meaning {
             Meaning::Nothing => {}
-            Meaning::Call {
-                kind: _,
-                first: _,
-                second: _,
-            } => {
-                count += 1;
-            }
-            Meaning::Unreadable => {
-                return ScriptAnswer::Unreadable(start.number);
-            }
+            Meaning::Call(_, _, _) => count += 1,
+            Meaning::Unreadable => return Err(ScriptError::Unreadable(start.number)),
         }
         start = line.next;
     }
-    let place = start.place;
-    at_end(place, count)
+    at_end(start.place, count)
 }
 
 // Writes a line's call from a place on, and answers the place after it.
@@ -429,18 +276,13 @@ fn put_call(calls: &mut [u64], to: usize, meaning: Meaning) -> usize
     ensures calls { calls.new ≡ put meaning to calls.old }
 {
     match meaning {
-        Meaning::Nothing => to,
-        Meaning::Call {
-            kind,
-            first,
-            second,
-        } => {
+        Meaning::Call(kind, first, second) => {
             calls[to] = kind;
             calls[to + 1] = first;
             calls[to + 2] = second;
             to + 3
         }
-        Meaning::Unreadable => to,
+        Meaning::Nothing | Meaning::Unreadable => to,
     }
 }
 
@@ -453,27 +295,20 @@ fn write_calls(text: &[u8], calls: &mut [u64])
     let mut to = 0;
     while start.at < text.len() {
         let line = read_line(text, start);
-        let meaning = line.meaning;
-        to = put_call(calls, to, meaning);
+        to = put_call(calls, to, line.meaning);
         start = line.next;
     }
 }
 
-// Reads a script: writes its calls from calls[0] on, three numbers each. Where it cannot be read, or its calls do not fit, nothing is
-// written.
-pub fn read(text: &[u8], calls: &mut [u64]) -> ScriptAnswer
+// Reads a script: writes its calls from calls[0] on, three numbers each, and answers how many it has. Where it cannot be read, or its calls do
+// not fit, nothing is written.
+pub fn read(text: &[u8], calls: &mut [u64]) -> Result<usize, ScriptError>
     ensures { gave result calls.new ≡ script_read (script_of text.now) calls.old }
 {
-    let answer = check(text);
-    match answer {
-        ScriptAnswer::Read(count) => {
-            if calls.len() / 3 < count {
-                return ScriptAnswer::NoRoom;
-            }
-            write_calls(text, calls);
-        }
-        ScriptAnswer::Unreadable(_) => {}
-        ScriptAnswer::NoRoom => {}
+    let count = check(text)?;
+    if calls.len() / 3 < count {
+        return Err(ScriptError::NoRoom);
     }
-    answer
+    write_calls(text, calls);
+    Ok(count)
 }

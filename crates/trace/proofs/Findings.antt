@@ -4,6 +4,7 @@ use mathlib.Core.Bool.{Bool, true, false}
 use mathlib.Core.List.{List, ◌++◌}
 use Prim.Native.Nat.{ℕ, ◌+◌, ◌-◌, ◌*◌, ◌/◌, ◌≤◌, ◌<◌}
 use Rattle.std.specs.Prelude.{Result, Ok, Err}
+use Rattle.r8_core.specs.declared.Answered.{Answered}
 use native.Mathlib.Omega.{arith}
 use borrow.Author.Tests.{lt-ltb, le-ltb, ltb-true, ltb-false}
 use lib.Dec.{ltb}
@@ -19,7 +20,7 @@ use Rattle.r8_core.specs.Numbers.{load_number, run_number}
 use Rattle.r8_core.specs.Spent.{due_one}
 use Rattle.r8_core.specs.Progress.{starting, cycles_on}
 use Rattle.r8_core.specs.Calls.{Answer, ran, refused, refused_at, Reply, load_answer, load, loaded_reply, ran_reply, run}
-use Rattle.r8_core.specs.Answers.{LoadReply, RunReply, load_answer_of, load_gave, run_answer_of, run_gave}
+use Rattle.r8_core.specs.Answers.{load_answer_of, load_gave, run_answer_of, run_gave}
 use Rattle.r8_core.specs.declared.Core.{Core}
 use Rattle.r8_core.specs.declared.ListingError.{ListingError}
 use Rattle.r8_core.specs.declared.ListingError.TheVariants.{Refused, Faulty}
@@ -43,7 +44,7 @@ fresh_run t memory size few =
     ∙ ap (λ (n : ℕ). ran_reply (cycles_on n (starting fresh_core memory))) all
 
 -- by what the run gave of a core that was made fresh
-module _ (memory rows : List ℕ) (reply : RunReply) (core : Core) (after : List ℕ) (e : run_gave reply after ≡ run 1000 core memory)
+module _ (memory rows : List ℕ) (reply : Answered (Result Ran Refusal)) (core : Core) (after : List ℕ) (e : run_gave reply after ≡ run 1000 core memory)
     (fresh : core ≡ fresh_core) where
   answer : run_answer_of reply.answer ≡ (run 1000 fresh_core memory).answer
   answer = ap (λ (x : Reply). x.answer) e ∙ ap (λ (x : Core). (run 1000 x memory).answer) fresh
@@ -103,7 +104,7 @@ unfolding traced
 long_trace listing rows h = rw (lt-ltb 65536 (length listing) h)
 
 -- and one that is not, by what its load gave
-module _ (listing rows : List ℕ) (h : length listing ≤ 65536) (reply : LoadReply) (core : Core) (memory : List ℕ)
+module _ (listing rows : List ℕ) (h : length listing ≤ 65536) (reply : Answered (Result ℕ ListingError)) (core : Core) (memory : List ℕ)
     (e : load_gave reply memory ≡ load listing core (replicate 16384 0)) (fresh : core ≡ fresh_core) where
   loaded : load_gave reply memory ≡ load listing fresh_core (replicate 16384 0)
   loaded = e ∙ ap (λ (x : Core). load listing x (replicate 16384 0)) fresh

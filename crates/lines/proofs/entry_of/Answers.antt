@@ -1,5 +1,5 @@
 -- Both numbers are words and the byte between them is a space, so the end decides.
-use Rattle.std.proofs.Common.{rules, ◌≡◌, ◌<◌, sym, ap, ◌∙◌, slice_index_or}
+use Rattle.std.proofs.Common.{rules, ◌≡◌, ◌<◌, sym, ap, slice_index_or}
 use Rattle.lines.specs.Lines.{space, ends, entry_of, number_at}
 use Rattle.lines.proofs.Places.{to_end}
 use Rattle.lines.proofs.Entries.{entry_ended}

@@ -1,7 +1,6 @@
--- The line of four numbers.
 use Rattle.std.proofs.Common.{◌∙◌}
-use Rattle.printed.proofs.Lines.{row_at}
+use Rattle.printed.proofs.Lines.{row_same}
 use Rattle.printed.proofs.row_text.Goals as goal
 
 pub returns : goal.returns
-returns c = c.line_text.ensures ∙ row_at c.args.rows.now c.args.at c.flags_of.ensures
+returns c = c.line_text.ensures ∙ row_same c.args.row.now c.flags_of.ensures

@@ -1,17 +1,33 @@
--- A byte that is not b is passed.
-use Rattle.std.proofs.Common.{arith}
-use Rattle.lines.proofs.Places.{find_le, find_here, find_further, find_nothing}
+-- In what is not passed, the first byte that is b, if any, stands at the place found.
+use Rattle.std.proofs.Common.{rules, ◌≡◌, refl, ◌∙◌, ℕ, List, [], ◌∷◌, ◌+◌, arith, drop}
+use borrow.Author.Tests.{tests, eq-eqb, ne_eqb}
+use native.Mathlib.Numerals.{add-one}
+use Rattle.std.proofs.lemmas.Iterator.{IsFirst-from_position, YieldsList-from_slice, index_from_first}
+use Rattle.lines.specs.Lines.{find}
+use Rattle.lines.proofs.Places.{to_end}
 use Rattle.lines.proofs.search.place_of.Goals as goal
 
-pub loop-i-init : goal.loop-i-init
-loop-i-init c = (omega (arith, c.place_before-i.ensures, find_le c.args.b c.args.s.now), c.place_before-i.ensures)
+hit : (b x : ℕ) (s : List ℕ) → x ≡ b → find b (x ∷ s) ≡ 0
+unfolding find
+hit b x s e = rw (eq-eqb x b e)
 
-pub returns-then-s-i : goal.returns-then-s-i
-returns-then-s-i c = omega (arith, find_here c.args.s.now c.args.b c.loop-i.i c.loop-i-test.true c.if-s-i.true)
+miss : (b x : ℕ) (s : List ℕ) → (x ≡ b → ⊥) → find b (x ∷ s) ≡ find b s + 1
+unfolding find
+miss b x s n = rw (ne_eqb x b n, add-one)
 
-pub loop-i-preserved : goal.loop-i-preserved
-loop-i-preserved c =
-    (omega arith, omega (arith, find_further c.args.s.now c.args.b c.loop-i.i c.loop-i-test.true c.if-s-i.false))
+none : (b : ℕ) → find b [] ≡ 0
+unfolding find
+none b = refl
 
 pub returns : goal.returns
-returns c = omega (arith, find_nothing c.args.s.now c.args.b c.loop-i.i c.loop-i-test.false)
+returns c =
+    let b = c.args.b in
+    let rest = drop c.place_before-passed.result c.args.s.now in
+    let first =
+    index_from_first (find b) (λ x. x ≡ b) (λ x. x ≡ b → ⊥) (none b) (hit b) (miss b) rest c.position.result
+    (IsFirst-from_position _ _ _ (λ x. x ≡ b) (λ x. x ≡ b → ⊥) c.position.ensures.ran
+    (YieldsList-from_slice rest (c.iter.ensures.rest ∙ to_end c.args.s.now c.place_before-passed.result))
+    (λ x q k. search (rules, tests))
+    (λ x q k. search (rules, tests)))
+    in
+    omega (arith, c.place_before-passed.ensures.rest, first, rw (to_end c.args.s.now c.place_before-passed.result) at c.unwrap_or.ensures)
