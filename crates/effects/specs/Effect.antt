@@ -1,5 +1,5 @@
 -- What an instruction can change (the struct `Effect`), one part at a time: no other definition writes one out.
-use Rattle.std.specs.Prelude.{ℕ, List}
+use Rattle.std.specs.Prelude.{ℕ, List, Option, Some, None}
 use Rattle.words.specs.Memory as words
 use Rattle.words.specs.Arithmetic.{difference}
 use Rattle.isa.specs.declared.Flags.{Flags}
@@ -7,11 +7,10 @@ use Rattle.alu.specs.declared.Outcome.{Outcome}
 use Rattle.effects.specs.declared.Effect.{Effect}
 use Rattle.effects.specs.declared.Stop.{Stop}
 use Rattle.effects.specs.declared.Store.{Store}
-use Rattle.effects.specs.declared.Store.TheVariants.{Nothing, Word}
 
 -- as it is before an instruction: nothing to store
 abbrev pub untouched : ℕ → ℕ → ℕ → Flags → Stop → Effect
-untouched rt pc sp flags stop = record { rt = rt; pc = pc; sp = sp; flags = flags; stop = stop; store = Nothing }
+untouched rt pc sp flags stop = record { rt = rt; pc = pc; sp = sp; flags = flags; stop = stop; store = None }
 
 -- 'Rt takes ..', 'PC takes ..', 'SP takes ..'
 abbrev pub to_rt : ℕ → Effect → Effect
@@ -32,7 +31,7 @@ stopping s x = record { rt = x.rt; pc = x.pc; sp = x.sp; flags = x.flags; stop =
 
 -- 'M(address) takes ..'
 abbrev pub storing : ℕ → ℕ → Effect → Effect
-storing a v x = record { rt = x.rt; pc = x.pc; sp = x.sp; flags = x.flags; stop = x.stop; store = Word a v }
+storing a v x = record { rt = x.rt; pc = x.pc; sp = x.sp; flags = x.flags; stop = x.stop; store = Some (record { address = a; word = v }) }
 
 -- a result of arithmetic: Rt takes the value, and the flags are those after it
 abbrev pub arithmetic_result : Outcome → Effect → Effect
@@ -47,6 +46,6 @@ abbrev pub pushed : ℕ → Effect → Effect
 pushed v x = to_sp (difference x.sp 1) (storing x.sp v x)
 
 -- the memory after a store
-abbrev pub applied : Store → List ℕ → List ℕ
-applied Nothing memory = memory
-applied (Word address word) memory = words.stored memory address word
+abbrev pub applied : Option Store → List ℕ → List ℕ
+applied None memory = memory
+applied (Some store) memory = words.stored memory store.address store.word

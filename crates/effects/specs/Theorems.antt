@@ -1,7 +1,7 @@
 -- Setting a part of an effect or of the hidden registers leaves all others. The cycles of an instruction, taken together, do what the
 -- instruction table says; cycles past its last do nothing; cycle 4 makes the access that its kind names; and what is stacked is found again.
 -- Six statements, proved in proofs/Theorems.antt.
-use Rattle.std.specs.Prelude.{◌≡◌, ◌↔◌, List, ℕ, ◌<◌, length}
+use Rattle.std.specs.Prelude.{◌≡◌, ◌↔◌, List, ℕ, ◌<◌, length, Option, Some, None}
 use Rattle.words.specs.Memory.{word_at}
 use Rattle.isa.specs.Control.{second_register}
 use Rattle.isa.specs.Cost.{class_of}
@@ -20,12 +20,11 @@ use Rattle.effects.specs.Cycles.{stop_of, calculated, written_back}
 use Rattle.effects.specs.declared.Effect.{Effect}
 use Rattle.effects.specs.declared.Hidden.{Hidden}
 use Rattle.effects.specs.declared.Store.{Store}
-use Rattle.effects.specs.declared.Store.TheVariants.{Nothing, Word}
 use Rattle.effects.specs.declared.Stop as stop
 use Rattle.effects.specs.declared.Stop.TheVariants.{Going}
 
 -- an effect with these parts
-abbrev pub EffectHas : ℕ → ℕ → ℕ → Flags → stop.Stop → Store → Effect → Type 0
+abbrev pub EffectHas : ℕ → ℕ → ℕ → Flags → stop.Stop → Option Store → Effect → Type 0
 EffectHas rt pc sp flags stop store x =
     (x.rt ≡ rt) × (x.pc ≡ pc) × (x.sp ≡ sp) × (x.flags ≡ flags) × (x.stop ≡ stop) × (x.store ≡ store)
 
@@ -38,7 +37,7 @@ EffectParts =
     × EffectHas x.rt x.pc v x.flags x.stop x.store (to_sp v x)
     × EffectHas x.rt x.pc x.sp f x.stop x.store (to_flags f x)
     × EffectHas x.rt x.pc x.sp x.flags s x.store (stopping s x)
-    × EffectHas x.rt x.pc x.sp x.flags x.stop (Word v w) (storing v w x)
+    × EffectHas x.rt x.pc x.sp x.flags x.stop (Some (record { address = v; word = w })) (storing v w x)
 
 -- hidden registers with these parts; and each setter of Hidden sets its own and leaves all others (proved as `hidden_parts`)
 abbrev pub HiddenHas : ℕ → ℕ → ℕ → ℕ → Hidden → Type 0
@@ -82,14 +81,14 @@ PastTheLast = (k : Kind) (h : Hidden) (M : List ℕ) (x : Effect) → Idle (clas
 -- What an access comes to, f being what cycle 4 writes back, by the memory. A read sees the word at its address, which comes out, and no other; a
 -- write stores one word, at its address; what makes no access does neither
 abbrev pub Accesses : Access → ℕ → (List ℕ → Effect) → Type 0
-Accesses none address f = (M M' : List ℕ) → (f M ≡ f M') × ((f M).store ≡ Nothing)
-Accesses read address f = (M M' : List ℕ) → ((f M ≡ f M') ↔ (word_at M address ≡ word_at M' address)) × ((f M).store ≡ Nothing)
-Accesses write address f = (M M' : List ℕ) → (f M ≡ f M') × ((word : ℕ) × ((f M).store ≡ Word address word))
+Accesses none address f = (M M' : List ℕ) → (f M ≡ f M') × ((f M).store ≡ None)
+Accesses read address f = (M M' : List ℕ) → ((f M ≡ f M') ↔ (word_at M address ≡ word_at M' address)) × ((f M).store ≡ None)
+Accesses write address f = (M M' : List ℕ) → (f M ≡ f M') × ((word : ℕ) × ((f M).store ≡ Some (record { address = address; word = word })))
 
 -- cycle 4 of LD, POP and RTS reads, that of ST, PUSH and the calls stores, and that of no other kind does either (proved as `access_made`)
 abbrev pub AccessMade : Type 0
 AccessMade =
-    (k : Kind) (h : Hidden) (x : Effect) → x.store ≡ Nothing
+    (k : Kind) (h : Hidden) (x : Effect) → x.store ≡ None
     → Accesses (access_of k) (address_of k h x) (λ M. written_back k h M x)
 
 -- 'PUSH: M(SP) takes Rt, then SP-1', 'A call stores PC at M(SP), then SP-1', 'RTS: PC takes M(SP+1), SP+1', 'POP: Rt likewise': in the

@@ -18,11 +18,11 @@ pub enum Stop {
     Undefined,
 }
 
-// At most one word to be stored.
+// A word that is to be stored.
 #[derive(Clone, Copy)]
-pub enum Store {
-    Nothing,
-    Word { address: u16, word: u16 },
+pub struct Store {
+    pub address: u16,
+    pub word: u16,
 }
 
 // The hidden registers.
@@ -42,7 +42,7 @@ pub struct Effect {
     pub sp: u16,
     pub flags: Flags,
     pub stop: Stop,
-    pub store: Store,
+    pub store: Option<Store>,
 }
 
 // What a whole instruction does, and what its cycles leave in RALU.
@@ -81,7 +81,7 @@ impl Effect {
         ensures { result ≡ storing address word self }
     {
         Effect {
-            store: Store::Word { address, word },
+            store: Some(Store { address, word }),
             ..self
         }
     }

@@ -1,4 +1,5 @@
 -- Laws of a run's cycles: which cycle is done, and how they follow one another.
+use Rattle.std.specs.Prelude.{None}
 use mathlib.Core.Path.{◌≡◌, refl, sym, ap, ◌∙◌}
 use mathlib.Core.Bool.{Bool, true, false, cond}
 use mathlib.Core.List.{List}
@@ -15,7 +16,6 @@ use Rattle.isa.specs.declared.Kind.{Kind}
 use Rattle.table.specs.Table.{kind_of}
 use Rattle.effects.specs.Cycles.{stop_of}
 use Rattle.effects.specs.declared.Stop as stop
-use Rattle.effects.specs.declared.Store.TheVariants.{Nothing}
 use Rattle.r8_core.specs.Datapath.{fetched, second, third, fourth_effect, with_effect, transition, idle, is_last, later_cycle, due_cycle, cycle_or_idle}
 use Rattle.r8_core.specs.Cores.{Visible}
 use Rattle.r8_core.specs.Instruction.{word_due, takes}
@@ -25,7 +25,7 @@ use Rattle.r8_core.specs.declared.Core.{Core}
 
 -- the cycle due is the one that is done
 module _ (M : List ℕ) (core : Core) where
-  pub first_cycle : core.due ≡ 1 → due_cycle M core ≡ transition false (fetched M core) Nothing
+  pub first_cycle : core.due ≡ 1 → due_cycle M core ≡ transition false (fetched M core) None
   unfolding due_cycle
   first_cycle e = rw e
 
@@ -34,11 +34,11 @@ module _ (M : List ℕ) (core : Core) where
   later n = rw (ne_eqb core.due 1 n)
 
   pub second_cycle : (kind : Kind) → core.due ≡ 2
-      → later_cycle kind M core ≡ transition (is_last kind core) (second (stop_of kind) kind core) Nothing
+      → later_cycle kind M core ≡ transition (is_last kind core) (second (stop_of kind) kind core) None
   unfolding later_cycle
   second_cycle kind e = rw e
 
-  pub third_cycle : (kind : Kind) → core.due ≡ 3 → later_cycle kind M core ≡ transition (is_last kind core) (third kind core) Nothing
+  pub third_cycle : (kind : Kind) → core.due ≡ 3 → later_cycle kind M core ≡ transition (is_last kind core) (third kind core) None
   unfolding later_cycle
   third_cycle kind e = rw e
 

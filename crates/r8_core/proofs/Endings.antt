@@ -1,4 +1,5 @@
 -- How the cycles of a run end: the letters by the stop state and the cycle due, the budget and the clock by the cycles that were done.
+use Rattle.std.specs.Prelude.{Option, None}
 use mathlib.Core.Path.{◌≡◌, refl, ap, ◌∙◌}
 use mathlib.Core.Logic.{◌↔◌}
 use mathlib.Core.Bool.{Bool, true, false}
@@ -11,7 +12,6 @@ use Rattle.isa.specs.Cost.{cost_of}
 use Rattle.table.specs.Table.{kind_of}
 use Rattle.effects.specs.Cycles.{stop_of}
 use Rattle.effects.specs.declared.Store.{Store}
-use Rattle.effects.specs.declared.Store.TheVariants.{Nothing}
 use Rattle.effects.specs.declared.Stop.{Stop}
 use Rattle.effects.specs.declared.Stop.TheVariants.{Going, Halted, Undefined}
 use Rattle.r8_core.specs.Datapath.{fetched, second, third, due_after, transition, is_last, due_cycle}
@@ -110,7 +110,7 @@ pub record Ticks (before after : Core) : Type 0 where
   pub clock : after.clock.0 ≡ before.clock.0 + 1
   pub due : due_in_range after ≡ true
 
-ticks : (finished : Bool) (before core : Core) (store : Store) → core.clock.0 ≡ before.clock.0 → core.due ≤ 3
+ticks : (finished : Bool) (before core : Core) (store : Option Store) → core.clock.0 ≡ before.clock.0 → core.due ≤ 3
     → Ticks before (transition finished core store).core
 ticks finished before core store c d =
     let r = due_after_range finished core.due d in
@@ -129,12 +129,12 @@ cycle_ticks memory core due =
     let k = kind_of core.hidden.ir in
     let r = due_when core due in
     four_cases (Ticks core (due_cycle memory core).core) core.due r.0 r.1
-    (λ d. rw (first_cycle memory core d) (ticks false core (fetched memory core) Nothing refl (omega arith)))
+    (λ d. rw (first_cycle memory core d) (ticks false core (fetched memory core) None refl (omega arith)))
     (λ d. let keeps = second_keeps (stop_of k) k core in
     rw (later memory core (λ e. omega arith) ∙ second_cycle memory core k d)
-    (ticks (is_last k core) core (second (stop_of k) k core) Nothing keeps.0 (omega arith)))
+    (ticks (is_last k core) core (second (stop_of k) k core) None keeps.0 (omega arith)))
     (λ d. rw (later memory core (λ e. omega arith) ∙ third_cycle memory core k d)
-    (ticks (is_last k core) core (third k core) Nothing refl (omega arith)))
+    (ticks (is_last k core) core (third k core) None refl (omega arith)))
     (λ d. let last : is_last k core ≡ true = le-leb (cost_of k core.flags) core.due (omega (arith, (cost_of_range k core.flags).1)) in
     rw (later memory core (λ e. omega arith) ∙ fourth_cycle memory core k d, last)
     (record { clock = refl; due = refl }))

@@ -1,4 +1,5 @@
 -- The theorem `OneInstruction` of specs/Theorems.antt: by the class of the instruction at PC, from `CyclesAgree` of `effects`.
+use Rattle.std.specs.Prelude.{None}
 use mathlib.Core.Path.{◌≡◌, refl, sym, ap, subst, ◌∙◌}
 use mathlib.Core.Bool.{Bool, true, false}
 use mathlib.Core.List.{List}
@@ -25,7 +26,6 @@ use Rattle.effects.specs.Theorems.{AsCycles, Idle}
 use Rattle.effects.proofs.Theorems.{cycles_agree, past_the_last}
 use Rattle.effects.specs.declared.Stop as stop
 use Rattle.effects.specs.declared.Stop.TheVariants.{Going, Halted, Undefined}
-use Rattle.effects.specs.declared.Store.TheVariants.{Nothing}
 use Rattle.r8_core.specs.Cores.{with_pc, with_flags, with_hidden, with_due, stopped, with_clock, Visible, visible_of, visible, with_visible, register, ra_of, rb_of, effect_before, changed}
 use Rattle.r8_core.specs.Spent.{due_one}
 use Rattle.r8_core.specs.Datapath.{fetched, latched, second, third, fourth_effect, with_effect, ticked, transition, is_last, later_cycle, due_cycle}
@@ -137,14 +137,14 @@ module _ (M : List ℕ) (c : Core) (u f : ℕ) where
 
   advance2 : (last : Bool) (next : Core)
       → is_last (kind M c) (after1 M c) ≡ last → second (stop_of (kind M c)) (kind M c) (after1 M c) ≡ next
-      → cycle_on (at (after1 M c) M u f) ≡ after_cycle (transition last next Nothing) (at (after1 M c) M u f)
+      → cycle_on (at (after1 M c) M u f) ≡ after_cycle (transition last next None) (at (after1 M c) M u f)
   unfolding cycle_on due_cycle later_cycle
-  advance2 last next e n = λ j. after_cycle (transition (e j) (n j) Nothing) (at (after1 M c) M u f)
+  advance2 last next e n = λ j. after_cycle (transition (e j) (n j) None) (at (after1 M c) M u f)
 
   advance3 : (last : Bool) → is_last (kind M c) (after2 M c) ≡ last
-      → cycle_on (at (after2 M c) M u f) ≡ after_cycle (transition last (third (kind M c) (after2 M c)) Nothing) (at (after2 M c) M u f)
+      → cycle_on (at (after2 M c) M u f) ≡ after_cycle (transition last (third (kind M c) (after2 M c)) None) (at (after2 M c) M u f)
   unfolding cycle_on due_cycle later_cycle
-  advance3 last e = λ j. after_cycle (transition (e j) (third (kind M c) (after2 M c)) Nothing) (at (after2 M c) M u f)
+  advance3 last e = λ j. after_cycle (transition (e j) (third (kind M c) (after2 M c)) None) (at (after2 M c) M u f)
 
   advance4 : is_last (kind M c) (after3 M c) ≡ true
       → cycle_on (at (after3 M c) M u f)

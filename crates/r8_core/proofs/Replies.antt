@@ -1,4 +1,5 @@
 -- Laws for the code of the calls: the reply that a number makes, and where a call starts.
+use Rattle.std.specs.Prelude.{Option, Some, None}
 use mathlib.Core.Path.{◌≡◌, refl, sym, ap, ◌∙◌}
 use mathlib.Core.Bool.{Bool, true, false, cond}
 use mathlib.Core.List.{List}
@@ -13,7 +14,6 @@ use Rattle.refusals.specs.declared.Refusal.{Refusal}
 use Rattle.refusals.proofs.First.{has_number}
 use Rattle.effects.specs.Effect.{applied}
 use Rattle.effects.specs.declared.Store.{Store}
-use Rattle.effects.specs.declared.Store.TheVariants.{Nothing, Word}
 use Rattle.r8_core.specs.Cores.{visible_of}
 use Rattle.r8_core.specs.Instruction.{takes, step_transition}
 use Rattle.r8_core.specs.Spent.{due_one, due_in_range}
@@ -56,6 +56,6 @@ pub bit_small : (b : Bool) → bit b ≤ 1
 bit_small true = lit≤ tt
 bit_small false = lit≤ tt
 
-pub applied_length : (store : Store) (memory : List ℕ) → length (applied store memory) ≡ length memory
-applied_length Nothing memory = refl
-applied_length (Word address word) memory = length-set memory address word
+pub applied_length : (store : Option Store) (memory : List ℕ) → length (applied store memory) ≡ length memory
+applied_length None memory = refl
+applied_length (Some store) memory = length-set memory store.address store.word

@@ -1,5 +1,5 @@
 -- Document 01, 'Datapath cycles': one cycle on a core and a memory M.
-use Rattle.std.specs.Prelude.{Bool, true, false, cond, List, ℕ, ◌+◌, eqb, leb}
+use Rattle.std.specs.Prelude.{Bool, true, false, cond, List, ℕ, ◌+◌, eqb, leb, Option, None}
 use Rattle.words.specs.Memory.{word_at}
 use Rattle.words.specs.Arithmetic.{sum}
 use Rattle.isa.specs.Cost.{cost_of}
@@ -13,7 +13,6 @@ use Rattle.effects.specs.declared.Stop.{Stop}
 use Rattle.effects.specs.declared.Stop as stop
 use Rattle.effects.specs.declared.Stop.TheVariants.{Going, Halted}
 use Rattle.effects.specs.declared.Store.{Store}
-use Rattle.effects.specs.declared.Store.TheVariants.{Nothing}
 use Rattle.r8_core.specs.Cores.{with_pc, with_flags, with_hidden, with_due, stopped, with_clock, visible_of, with_visible, ra_of, rb_of, effect_before, changed}
 use Rattle.r8_core.specs.Numbers.{clock_full}
 use Rattle.r8_core.specs.declared.Core.{Core}
@@ -58,12 +57,12 @@ due_after false due = due + 1
 abbrev pub ticked : Bool → Core → Core
 ticked finished core = with_clock (core.clock.0 + 1) (with_due (due_after finished core.due) core)
 
-abbrev pub transition : Bool → Core → Store → Transition
+abbrev pub transition : Bool → Core → Option Store → Transition
 transition finished core store = record { core = ticked finished core; finished = finished; store = store }
 
 -- no cycle is done
 abbrev pub idle : Core → Transition
-idle core = record { core = core; finished = false; store = Nothing }
+idle core = record { core = core; finished = false; store = None }
 
 -- the cycle due is the last of the instruction in IR if that costs, under the core's flags, no more cycles than the number due
 abbrev pub is_last : Kind → Core → Bool
@@ -73,14 +72,14 @@ is_last kind core = leb (cost_of kind core.flags) core.due
 -- below, and run refuses all others with 7
 unfoldable pub later_cycle : Kind → List ℕ → Core → Transition
 later_cycle kind M core =
-    cond (eqb core.due 2) (transition (is_last kind core) (second (stop_of kind) kind core) Nothing)
-    (cond (eqb core.due 3) (transition (is_last kind core) (third kind core) Nothing)
+    cond (eqb core.due 2) (transition (is_last kind core) (second (stop_of kind) kind core) None)
+    (cond (eqb core.due 3) (transition (is_last kind core) (third kind core) None)
     (cond (eqb core.due 4) (transition (is_last kind core) (with_effect (fourth_effect kind M core) core) (fourth_effect kind M core).store)
     (idle core)))
 
 -- one cycle, by the cycle due
 unfoldable pub due_cycle : List ℕ → Core → Transition
-due_cycle M core = cond (eqb core.due 1) (transition false (fetched M core) Nothing) (later_cycle (kind_of core.hidden.ir) M core)
+due_cycle M core = cond (eqb core.due 1) (transition false (fetched M core) None) (later_cycle (kind_of core.hidden.ir) M core)
 
 -- and of any core: one whose clock is full ('of 32 bits') does none, as one whose cycle due is none of 1 to 4
 unfoldable pub cycle_or_idle : List ℕ → Core → Transition

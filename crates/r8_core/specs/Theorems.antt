@@ -1,7 +1,7 @@
 -- What a core's parts and its cycles spent are; what the engines come to: the cycles of an instruction do what the table says; a core that no
 -- call made; the values of document 01's proof bench. Five statements, proved in proofs/Parts.antt, proofs/OneInstruction.antt,
 -- proofs/Foreign.antt and proofs/Bench.antt.
-use Rattle.std.specs.Prelude.{◌≡◌, ◌↔◌, Bool, true, false, List, ℕ, ◌+◌, ◌≤◌, ◌<◌, set, replicate}
+use Rattle.std.specs.Prelude.{◌≡◌, ◌↔◌, Bool, true, false, List, ℕ, ◌+◌, ◌≤◌, ◌<◌, set, replicate, None}
 use Rattle.words.specs.Memory.{word_at}
 use Rattle.words.specs.Arithmetic.{sum}
 use Rattle.isa.specs.Cost.{cost_of}
@@ -13,7 +13,6 @@ use Rattle.effects.specs.Cycles.{calculated}
 use Rattle.effects.specs.declared.Hidden.{Hidden}
 use Rattle.effects.specs.declared.Stop.{Stop}
 use Rattle.effects.specs.declared.Stop.TheVariants.{Going, Undefined}
-use Rattle.effects.specs.declared.Store.TheVariants.{Nothing}
 use Rattle.r8_core.specs.Cores.{fresh_core, with_regs, with_pc, with_sp, with_flags, with_hidden, with_due, stopped, with_clock, visible_of, register, ra_of, rb_of, effect_before}
 use Rattle.r8_core.specs.Spent.{spent_of, due_in_range, due_one}
 use Rattle.r8_core.specs.Datapath.{due_cycle}
@@ -100,7 +99,7 @@ abbrev pub ForeignCore : Type 0
 ForeignCore =
     (memory : List ℕ) (core : Core) → 3 ≤ core.due → core.due ≤ 4 → cost_of (kind_of core.hidden.ir) core.flags < core.due
     → due_cycle memory core
-    ≡ record { core = with_clock (core.clock.0 + 1) (with_due 1 core); finished = true; store = Nothing }
+    ≡ record { core = with_clock (core.clock.0 + 1) (with_due 1 core); finished = true; store = None }
 
 -- The bench: a core with p in R1, q in R2, PC at the word and zero elsewhere; the word is the last of a memory of zeros
 abbrev pub bench_core : ℕ → ℕ → ℕ → Core

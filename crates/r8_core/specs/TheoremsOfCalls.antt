@@ -1,7 +1,7 @@
 -- What the calls come to, for every core and memory: when a call is refused, and that it then changes nothing; what it does where it is
 -- taken; and that different answers are read differently, each by its own parts. Ten statements, proved in proofs/Refusals.antt, proofs/Taken.antt,
 -- proofs/Again.antt and proofs/Apart.antt.
-use Rattle.std.specs.Prelude.{◌≡◌, ◌↔◌, ◌⊎◌, false, List, [], ◌∷◌, ℕ, ◌+◌, ◌≤◌, ◌<◌, length, Result, Ok, Err}
+use Rattle.std.specs.Prelude.{◌≡◌, ◌↔◌, ◌⊎◌, false, List, [], ◌∷◌, ℕ, ◌+◌, ◌≤◌, ◌<◌, length, Result, Ok, Err, None}
 use Rattle.r8_core.specs.declared.Answered.{Answered}
 use Rattle.refusals.specs.Refusals.{refusal_number}
 use Rattle.refusals.specs.Theorems.{First, NoneApplies}
@@ -12,7 +12,6 @@ use Rattle.listing.specs.declared.Fault.{Fault}
 use Rattle.listing.specs.declared.FaultAt.{FaultAt}
 use Rattle.words.specs.Arithmetic.{bit}
 use Rattle.effects.specs.declared.Stop.TheVariants.{Going, Halted, Undefined}
-use Rattle.effects.specs.declared.Store.TheVariants.{Nothing}
 use Rattle.effects.specs.Effect.{applied}
 use Rattle.effects.specs.Hidden.{no_hidden}
 use Rattle.r8_core.specs.Cores.{fresh_core, with_hidden, visible_of}
@@ -153,7 +152,7 @@ CycleExactly =
     (core : Core) (memory : List ℕ)
     → (core.clock.0 < 4294967295 → cycle_or_idle memory core ≡ due_cycle memory core)
     × ((4294967295 ≤ core.clock.0) ⊎ ((core.due < 1) ⊎ (4 < core.due))
-    → cycle_or_idle memory core ≡ record { core = core; finished = false; store = Nothing })
+    → cycle_or_idle memory core ≡ record { core = core; finished = false; store = None })
 
 -- a step that is taken answers its instruction's cost, 1 instruction finished and the letter of the core that it hands back; it is as a run
 -- of just that cost, but that the 'hidden registers become zero' (proved as `step_taken`)

@@ -51,7 +51,7 @@ pub struct Core {
 pub struct Transition {
     pub core: Core,
     pub finished: bool,
-    pub store: Store,
+    pub store: Option<Store>,
 }
 
 // What whole instructions change of a core with cycle 1 due, but for its bank of registers and its clock, and what is left of the budget that
@@ -217,10 +217,10 @@ fn load_verdict(words: usize, ready: bool) -> Result<(), Refusal>
 }
 
 // The store of a cycle or an instruction, made.
-fn apply(store: Store, memory: &mut [u16])
+fn apply(store: Option<Store>, memory: &mut [u16])
     ensures { memory.new ≡ applied store memory.old }
 {
-    if let Store::Word { address, word } = store {
+    if let Some(Store { address, word }) = store {
         words::write(memory, address, word);
     }
 }
@@ -243,7 +243,7 @@ impl Working {
             sp: self.sp,
             flags: self.flags,
             stop: self.stop,
-            store: Store::Nothing,
+            store: None,
         }
     }
 
@@ -359,7 +359,7 @@ impl Core {
             sp: self.sp,
             flags: self.flags,
             stop: self.stop,
-            store: Store::Nothing,
+            store: None,
         }
     }
 
@@ -391,7 +391,7 @@ impl Core {
     }
 
     // The core after a cycle: the clock grows by 1; cycle 1 is due after the last cycle of an instruction, else the next one.
-    fn transition(mut self, finished: bool, store: Store) -> Transition
+    fn transition(mut self, finished: bool, store: Option<Store>) -> Transition
         requires { (self.clock.0 < 4294967295) × (self.due ≤ 4) }
         ensures { result ≡ transition finished self store }
     {
@@ -411,7 +411,7 @@ impl Core {
         Transition {
             core: self,
             finished: false,
-            store: Store::Nothing,
+            store: None,
         }
     }
 
@@ -434,13 +434,13 @@ impl Core {
         ensures { result ≡ due_cycle memory.now self }
     {
         if self.due == 1 {
-            return self.fetch(memory).transition(false, Store::Nothing);
+            return self.fetch(memory).transition(false, None);
         }
         let kind = table::kind_of(self.hidden.ir);
         let last = self.is_last(kind);
         match self.due {
-            2 => self.stop_or_latch(kind).transition(last, Store::Nothing),
-            3 => self.calculate(kind).transition(last, Store::Nothing),
+            2 => self.stop_or_latch(kind).transition(last, None),
+            3 => self.calculate(kind).transition(last, None),
             4 => {
                 let effect = effects::write_back(kind, self.hidden, memory, self.effect_before());
                 self.with_effect(effect).transition(last, effect.store)

@@ -1,4 +1,5 @@
 -- The page of the cycles: each goes by the kind and the fields of the word in IR.
+use Rattle.std.specs.Prelude.{Option, None}
 use mathlib.Core.Path.{◌≡◌, refl, sym, ap, ◌∙◌}
 use mathlib.Core.Bool.{Bool, true, false}
 use mathlib.Core.List.{List}
@@ -26,7 +27,6 @@ use Rattle.effects.specs.declared.Effect.{Effect}
 use Rattle.effects.specs.declared.Stop.{Stop}
 use Rattle.effects.specs.declared.Stop.TheVariants.{Going, Halted, Undefined}
 use Rattle.effects.specs.declared.Store.{Store}
-use Rattle.effects.specs.declared.Store.TheVariants.{Nothing}
 use Rattle.r8_core.specs.Cores.{with_regs, with_hidden, with_due, stopped, with_clock, visible, with_visible, visible_of, effect_before, ra_of, rb_of}
 use Rattle.r8_core.specs.Datapath.{fetched, second, with_result, third, with_effect, fourth_effect, due_after, transition, is_last, later_cycle, cycle_or_idle}
 use Rattle.r8_core.specs.declared.Core.{Core}
@@ -40,7 +40,7 @@ use Rattle.reference.proofs.Instructions.{sum_said, difference_said}
 
 module _ (c : Core) (M : List ℕ) (room : c.clock.0 < 4294967295) where
   -- the core x after cycle n of an instruction of some kind
-  abbrev given : ℕ → Kind → Core → Store → Transition
+  abbrev given : ℕ → Kind → Core → Option Store → Transition
   given n kind x store =
       let last : Bool = leb (cost_of kind c.flags) n in
       record { core = with_clock (c.clock.0 + 1) (with_due (due_after last n) x); finished = last; store = store }
@@ -52,11 +52,11 @@ module _ (c : Core) (M : List ℕ) (room : c.clock.0 < 4294967295) where
   latched Undefined p q = stopped Undefined c
 
   abbrev two_on : ℕ → Kind → ℕ → ℕ → ℕ → Transition
-  two_on n kind t a b = given n kind (latched (stop_of kind) (R c M a) (R c M (second_register kind t b))) Nothing
+  two_on n kind t a b = given n kind (latched (stop_of kind) (R c M a) (R c M (second_register kind t b))) None
 
   -- cycle 3, by the word
   abbrev three_on : ℕ → Kind → ℕ → Transition
-  three_on n kind w = given n kind (with_result (calculated kind (with_ir w c.hidden) (effect_before w (visible_of c))) c) Nothing
+  three_on n kind w = given n kind (with_result (calculated kind (with_ir w c.hidden) (effect_before w (visible_of c))) c) None
 
   -- cycle 4, by the register t
   abbrev backed : Kind → ℕ → Effect
@@ -86,7 +86,7 @@ module _ (c : Core) (M : List ℕ) (room : c.clock.0 < 4294967295) where
   latched_clock Undefined p q = refl
 
   -- a cycle on a core that has kept the cycle due and the clock
-  ticks : (n : ℕ) (kind : Kind) (x : Core) (store : Store) → c.due ≡ n → x.due ≡ c.due → x.clock ≡ c.clock
+  ticks : (n : ℕ) (kind : Kind) (x : Core) (store : Option Store) → c.due ≡ n → x.due ≡ c.due → x.clock ≡ c.clock
       → transition (is_last kind c) x store ≡ given n kind x store
   ticks n kind x store e ed ec =
       λ j. record {
@@ -104,15 +104,15 @@ module _ (c : Core) (M : List ℕ) (room : c.clock.0 < 4294967295) where
       let s : Stop = stop_of (kind_of w) in
       on_cycle 2 e (λ d. omega arith)
       ∙ second_cycle M c (kind_of w) e
-      ∙ ap (λ (x : Core). transition (is_last (kind_of w) c) x Nothing) (as_latched s (kind_of w))
-      ∙ ticks 2 (kind_of w) (latched s p q) Nothing e (latched_due s p q) (latched_clock s p q)
+      ∙ ap (λ (x : Core). transition (is_last (kind_of w) c) x None) (as_latched s (kind_of w))
+      ∙ ticks 2 (kind_of w) (latched s p q) None e (latched_due s p q) (latched_clock s p q)
 
   is_three : c.due ≡ 3 → cycle_or_idle M c ≡ three_on 3 (kind_of c.hidden.ir) c.hidden.ir
   is_three e =
       let w : ℕ = c.hidden.ir in
       on_cycle 3 e (λ d. omega arith)
       ∙ third_cycle M c (kind_of w) e
-      ∙ ticks 3 (kind_of w) (third (kind_of w) c) Nothing e refl refl
+      ∙ ticks 3 (kind_of w) (third (kind_of w) c) None e refl refl
 
   is_four : c.due ≡ 4 → cycle_or_idle M c ≡ four_on 4 (kind_of c.hidden.ir) (field_t c.hidden.ir)
   is_four e =
@@ -168,7 +168,7 @@ module _ (c : Core) (M : List ℕ) (room : c.clock.0 < 4294967295) where
       record {
         core = with_clock (c.clock.0 + 1) (with_due (due_after last 2) (latched Going (R c M a) (R c M b)));
         finished = last;
-        store = Nothing;
+        store = None;
       }
 
   holds : (g : Bool) (a b : ℕ) → held g a b ≡ latch c M a b
@@ -181,7 +181,7 @@ module _ (c : Core) (M : List ℕ) (room : c.clock.0 < 4294967295) where
       record {
         core = with_clock (c.clock.0 + 1) (with_due (due_after last 3) (with_result (plain c.flags x) c));
         finished = last;
-        store = Nothing;
+        store = None;
       }
 
   aims : (g : Bool) (x : ℕ) → aimed g x ≡ aim c M g x
@@ -239,7 +239,7 @@ cycles_exactly c M room ra rb t a b u q ht ha hb hu hq =
     let short = short c M room in
     let none = none c M room in
     record {
-      fetch = λ d. within_clock M c room ∙ first_cycle M c d ∙ ap (λ (n : ℕ). record { core = with_clock (c.clock.0 + 1) (with_due (n + 1) (fetched M c)); finished = false; store = Nothing }) d;
+      fetch = λ d. within_clock M c room ∙ first_cycle M c d ∙ ap (λ (n : ℕ). record { core = with_clock (c.clock.0 + 1) (with_due (n + 1) (fetched M c)); finished = false; store = None }) d;
       ADD = calculating _ _ _ _ _ (sum_said (RA c M) (RB c M) ra rb) (row 0x0 t a b (t / 4) (lit< tt) ht ha hb refl);
       SUB = calculating _ _ _ _ _ (difference_said (RA c M) (RB c M) ra rb) (row 0x1 t a b (t / 4) (lit< tt) ht ha hb refl);
       AND = row 0x2 t a b (t / 4) (lit< tt) ht ha hb refl;

@@ -1,4 +1,5 @@
 -- The page of the instructions: a step goes by the kind and the fields of the word at PC.
+use Rattle.std.specs.Prelude.{None}
 use mathlib.Core.Path.{◌≡◌, refl, sym, ap, ◌∙◌}
 use mathlib.Core.Bool.{Bool, true, false, not}
 use mathlib.Core.List.{List}
@@ -26,7 +27,6 @@ use Rattle.effects.specs.Table.{jumped, executed}
 use Rattle.effects.specs.declared.Effect.{Effect}
 use Rattle.effects.specs.declared.Stop as stop
 use Rattle.effects.specs.declared.Stop.TheVariants.{Going}
-use Rattle.effects.specs.declared.Store.TheVariants.{Nothing}
 use Rattle.r8_core.specs.Cores.{with_regs}
 use Rattle.r8_core.specs.Spent.{due_one}
 use Rattle.r8_core.specs.Instruction.{after, memory_after, takes, step_transition}
@@ -46,7 +46,7 @@ module _ (c : Core) (M : List ℕ) (least : 1 ≤ length M) (most : length M ≤
     (room : c.clock.0 + 4 ≤ 4294967295) where
   -- what the table says of a kind, with the registers t, a, b, of a core with this stop state
   abbrev before : stop.Stop → ℕ → Effect
-  before s t = record { rt = R c M t; pc = PC c M; sp = SP c M; flags = c.flags; stop = s; store = Nothing }
+  before s t = record { rt = R c M t; pc = PC c M; sp = SP c M; flags = c.flags; stop = s; store = None }
 
   abbrev shown : ℕ → Effect → ℕ → Reply
   shown t x n =

@@ -1,13 +1,12 @@
 -- Document 01, 'Datapath cycles', as one page: what the method `cycle` gives, whole, in cycle 1, and in cycles 2, 3 and 4 for each instruction, of every
 -- core that has the cycle due and the word with these digits in IR, a core that no call made too. How run is made of cycles is said by
 -- `RunByCycles` and `RunAgain` of `r8_core`. One statement, proved in proofs/Cycles.antt.
-use Rattle.std.specs.Prelude.{◌≡◌, Bool, true, false, cond, List, ℕ, ◌+◌, ◌-◌, ◌*◌, ◌/◌, ◌%◌, ◌<◌, set, get_or}
+use Rattle.std.specs.Prelude.{◌≡◌, Bool, true, false, cond, List, ℕ, ◌+◌, ◌-◌, ◌*◌, ◌/◌, ◌%◌, ◌<◌, set, get_or, Some, None}
 use Rattle.std.specs.Int.Bits.{bit_and, bit_or, bit_xor}
 use Rattle.alu.specs.declared.Outcome.{Outcome}
 use Rattle.effects.specs.Hidden.{with_ir, with_ra_rb, with_ralu}
 use Rattle.effects.specs.declared.Stop.{Stop}
 use Rattle.effects.specs.declared.Stop.TheVariants.{Halted, Undefined}
-use Rattle.effects.specs.declared.Store.TheVariants.{Nothing, Word}
 use Rattle.r8_core.specs.Cores.{with_regs, with_pc, with_sp, with_flags, with_hidden, with_due, stopped, with_clock}
 use Rattle.r8_core.specs.Datapath.{cycle_or_idle}
 use Rattle.r8_core.specs.declared.Core.{Core}
@@ -19,7 +18,7 @@ abbrev pub on : (Core → Core) → Transition → Transition
 on change s = record { core = change s.core; finished = s.finished; store = s.store }
 
 abbrev pub set_m : ℕ → ℕ → Transition → Transition
-set_m x v s = record { core = s.core; finished = s.finished; store = Word x v }
+set_m x v s = record { core = s.core; finished = s.finished; store = Some (record { address = x; word = v }) }
 
 -- 'Rt takes ..', 'PC takes ..', 'SP takes ..', 'RALU takes ..' with the flags; 'IR takes ..'; 'RA takes ..; RB takes ..'; 'stop'
 abbrev pub set_r : ℕ → ℕ → Transition → Transition
@@ -47,10 +46,10 @@ module _ (c : Core) (M : List ℕ) where
   -- 'Each cycle adds 1 to the clock': the core is else as it was, with that cycle due; or 'The last cycle .. counts it as finished and makes
   -- cycle 1 due'
   abbrev pub due : ℕ → Transition
-  due n = record { core = with_clock (c.clock.0 + 1) (with_due n c); finished = false; store = Nothing }
+  due n = record { core = with_clock (c.clock.0 + 1) (with_due n c); finished = false; store = None }
 
   abbrev pub ends : Transition
-  ends = record { core = with_clock (c.clock.0 + 1) (with_due 1 c); finished = true; store = Nothing }
+  ends = record { core = with_clock (c.clock.0 + 1) (with_due 1 c); finished = true; store = None }
 
   -- what the rows speak of, as it is before the cycle; PC is one past the instruction from cycle 2 on
   abbrev pub R : ℕ → ℕ
