@@ -1,13 +1,21 @@
 -- Lines written into a text, one after the other. Assumes nothing.
 use mathlib.Core.Path.{◌≡◌, refl, sym, ap, ◌∙◌}
-use mathlib.Core.List.{List, ◌++◌, append_assoc}
+use mathlib.Core.List.{List, [], ◌∷◌, ◌++◌, append_assoc}
 use Prim.Native.Nat.{ℕ, zero, suc, ◌+◌, ◌-◌, ◌*◌, ◌<◌}
 use native.Mathlib.Numerals.{add-one}
 use native.Mathlib.Omega.{arith}
-use lib.ListN.{length, get_or, take, drop}
-use lib.Seq.{take_at, drop_at, drop-drop, get_or-take, get_or-drop}
+use lib.ListN.{length, get_or, take, drop, set, drop_of_length-le}
+use lib.Seq.{sets-eq, take_at, drop_at, drop-drop, get_or-take, get_or-drop}
 use Rattle.words.specs.Memory.{word_at}
 use Rattle.dump.specs.Dump.{entry_text, listing_text}
+
+-- ten bytes, stored one by one
+pub ten_stored : (l : List ℕ) (a b c d e f g h i j : ℕ) → length l ≡ 10
+    → set (set (set (set (set (set (set (set (set (set l 0 a) 1 b) 2 c) 3 d) 4 e) 5 f) 6 g) 7 h) 8 i) 9 j
+    ≡ a ∷ b ∷ c ∷ d ∷ e ∷ f ∷ g ∷ h ∷ i ∷ j ∷ []
+ten_stored l a b c d e f g h i j ten =
+    let ten_bytes = a ∷ b ∷ c ∷ d ∷ e ∷ f ∷ g ∷ h ∷ i ∷ j ∷ [] in
+    sets-eq ten_bytes l 0 (omega (arith, ten)) ∙ ap (λ (r : List ℕ). ten_bytes ++ r) (drop_of_length-le l {i = 10} (omega (arith, ten)))
 
 pub lines_length : (memory : List ℕ) (first count : ℕ) → length (listing_text memory first count) ≡ 10 * count
 unfolding listing_text

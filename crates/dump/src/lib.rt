@@ -24,15 +24,24 @@ fn past_end(limit: usize, first: usize, count: usize) -> bool
     limit < first || limit - first < count
 }
 
-// A line, of ten bytes.
-fn line(address: u16, word: u16) -> [u8; LINE]
-    ensures { result ≡ entry_text address word }
+// A line, into its ten bytes, one by one: that an array of them is made and copied was tried, and has a third of the speed.
+#[tactic(auto, using(crate::proofs::Writes::ten_stored))]
+fn put_line(line: &mut [u8], address: u16, word: u16)
+    requires { length line.old ≡ 10 }
+    ensures { line.new ≡ entry_text address word }
 {
-    let mut line = [b' '; LINE];
-    line[..4].copy_from_slice(&hexadecimal::word_text(address));
-    line[5..9].copy_from_slice(&hexadecimal::word_text(word));
+    let [a, b, c, d] = hexadecimal::word_text(address);
+    let [w, x, y, z] = hexadecimal::word_text(word);
+    line[0] = a;
+    line[1] = b;
+    line[2] = c;
+    line[3] = d;
+    line[4] = b' ';
+    line[5] = w;
+    line[6] = x;
+    line[7] = y;
+    line[8] = z;
     line[9] = b'\n';
-    line
 }
 
 // The lines of a range that lies in the memory, into a text that has room for them. By places, and not over `chunks_exact_mut`, of which the
@@ -43,7 +52,11 @@ fn put_lines(memory: &[u16], first: usize, count: usize, text: &mut [u8])
     ensures { text.new ≡ listing_text memory.now first count ++ drop (10 * count) text.old }
 {
     for (i, word) in memory[first..first + count].iter().enumerate() {
-        text[LINE * i..LINE * (i + 1)].copy_from_slice(&line((first + i) as u16, *word));
+        put_line(
+            &mut text[LINE * i..LINE * (i + 1)],
+            (first + i) as u16,
+            *word,
+        );
     }
 }
 

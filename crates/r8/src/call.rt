@@ -34,23 +34,24 @@ fn core_of(registers: &[u16; 22], state: &[u32; 4]) -> Option<Core>
     }
     let stop = stop_of(state[1])?;
     let due = u8::try_from(state[2]).ok()?;
-    let mut core = r8_core::fresh();
     let mut regs = [0; 16];
     regs.copy_from_slice(&registers[..16]);
-    core.regs = regs;
-    core.pc = registers[16];
-    core.sp = registers[17];
-    core.hidden = Hidden {
+    let hidden = Hidden {
         ir: registers[18],
         ra: registers[19],
         rb: registers[20],
         ralu: registers[21],
     };
-    core.flags = layout::flags_of(u64::from(state[0]));
-    core.stop = stop;
-    core.due = due;
-    core.clock = Cycles(state[3]);
-    Some(core)
+    Some(Core {
+        regs,
+        pc: registers[16],
+        sp: registers[17],
+        flags: layout::flags_of(u64::from(state[0])),
+        hidden,
+        due,
+        stop,
+        clock: Cycles(state[3]),
+    })
 }
 
 fn registers_of(core: Core) -> [u16; 22]
