@@ -4,10 +4,12 @@ use mathlib.Core.Bool.{Bool, true, false, cond, and-false}
 use mathlib.Core.List.{List, [], ◌∷◌}
 use Prim.Native.Nat.{ℕ, suc, ◌+◌, ◌-◌, ◌≤◌, ◌<◌}
 use native.Mathlib.Nat.{le_refl}
+use native.Mathlib.Numerals.{add-one}
 use native.Mathlib.Omega.{arith}
+use borrow.Author.Tests.{eq-eqb, ne_eqb}
 use lib.Dec.{eqb}
-use lib.ListN.{length, get_or, take, drop, length-drop, get_or-eq_default}
-use lib.Seq.{take_all, length-take-le}
+use lib.ListN.{length, get_or, take, drop, length-drop, drop_of_length-le, get_or-eq_default}
+use lib.Seq.{drop-cons, take_all, length-take-le}
 use Rattle.hexadecimal.specs.Digits.{digit_value}
 use Rattle.lines.specs.declared.Line.TheVariants.{IllFormed}
 use Rattle.lines.specs.Lines.{line_feed, semicolon, find, first_line, is_empty, nothing_or_comment, four_digits, number_at, entry_from, entry_of}
@@ -15,6 +17,18 @@ use Rattle.lines.specs.Lines.{line_feed, semicolon, find, first_line, is_empty, 
 -- `&s[i..]`
 pub to_end : (s : List ℕ) (i : ℕ) → take (length s - i) (drop i s) ≡ drop i s
 to_end s i = take_all (length s - i) (drop i s) (omega (arith, length-drop i s))
+
+pub find_here : (s : List ℕ) (b i : ℕ) → i < length s → get_or s i 0 ≡ b → find b (drop i s) ≡ 0
+unfolding find
+find_here s b i h e = rw (drop-cons s i 0 h, eq-eqb (get_or s i 0) b e)
+
+pub find_further : (s : List ℕ) (b i : ℕ) → i < length s → (get_or s i 0 ≡ b → ⊥) → find b (drop i s) ≡ suc (find b (drop (i + 1) s))
+unfolding find
+find_further s b i h e = rw (add-one, drop-cons s i 0 h, ne_eqb (get_or s i 0) b e)
+
+pub find_nothing : (s : List ℕ) (b i : ℕ) → length s ≤ i → find b (drop i s) ≡ 0
+unfolding find
+find_nothing s b i h = rw (drop_of_length-le s h)
 
 pub find_le : (b : ℕ) (s : List ℕ) → find b s ≤ length s
 unfolding find
