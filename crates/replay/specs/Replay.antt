@@ -11,7 +11,7 @@ use Rattle.replay.specs.declared.ListedCall.{ListedCall}
 use Rattle.replay.specs.declared.ListedCall.TheVariants as listed_call
 use Rattle.replay.specs.declared.CallFault.{CallFault}
 use Rattle.replay.specs.declared.CallFault.TheVariants.{NoCall, NoStretch}
-use Rattle.replay.specs.declared.CallReply.{CallReply}
+use Rattle.r8_core.specs.declared.Answered.{Answered}
 use Rattle.replay.specs.declared.ReplayError.{ReplayError}
 use Rattle.replay.specs.declared.ReplayError.TheVariants as error
 
@@ -45,7 +45,7 @@ pub record CallPlayed : Type 0 where
   pub core : Core
   pub memory : List ℕ
 
-abbrev pub call_gave : CallReply → List ℕ → CallPlayed
+abbrev pub call_gave : Answered (Result (List ℕ) CallFault) → List ℕ → CallPlayed
 call_gave r memory = record { answer = r.answer; core = r.core; memory = memory }
 
 -- core and memory stay

@@ -8,7 +8,7 @@ ghost use Rattle.replay.specs.Replay.{read_stretch, read_budget, read_call, call
 ghost use Rattle.replay.specs.ReplayParts.{read_chunk, fault_at, verdict_of, FitsIn, ReadFits, Playable, core_played, after_play};
 
 use layout::Numbered;
-use r8_core::Core;
+use r8_core::{Answered, Core};
 
 // A call of a list: of a load, the stretch of the text.
 #[derive(Drop)]
@@ -36,12 +36,8 @@ pub enum ReplayError {
     NoRoom,
 }
 
-// The next core, and the numbers of what was answered.
-#[derive(Drop)]
-pub struct CallReply {
-    pub core: Core,
-    pub answer: Result<[u64; 23], CallFault>,
-}
+// The next core, and the numbers of what was answered, or why the call is not played.
+pub type CallReply = Answered<Result<[u64; 23], CallFault>>;
 
 // The fault of the call with an index.
 fn fault_at(why: CallFault, i: usize) -> ReplayError
@@ -145,12 +141,12 @@ pub fn play_call(
     match read_call(kind, first, second, text.len()) {
         Ok(call) => {
             let played = play(core, call, text, memory);
-            CallReply {
+            Answered {
                 core: played.core,
                 answer: Ok(played.numbers),
             }
         }
-        Err(why) => CallReply {
+        Err(why) => Answered {
             core,
             answer: Err(why),
         },
