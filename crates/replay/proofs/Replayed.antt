@@ -109,5 +109,3 @@ module _ (r : Reading) (memory answers : List ℕ) (found : Result ℕ ReplayErr
       (λ j. replay_gave ((sym p ∙ e) j) (sym left j).memory (sym left j).answers)
       ∙ sym (by_core r memory answers (playable_when r (length answers) n (sym e ∙ p)))
 
-  pub as_refused : (why : ReplayError) → found ≡ Err why → replay_gave (Err why) memory answers ≡ replayed r memory answers
-  as_refused why p = unchanged r memory answers why (sym e ∙ p)
