@@ -25,6 +25,7 @@ fn stop_of(n: u32) -> Option<Stop>
 }
 
 // The core of these numbers, where they are one's.
+#[inline(always)]
 #[tactic(auto, unfolding(crate::specs::Numbers::is_core))]
 fn core_of(registers: &[u16; 22], state: &[u32; 4]) -> Option<Core>
     ensures { MatchOption result (is_core registers.now state.now ≡ false) (λ core. (is_core registers.now state.now ≡ true) × (core ≡ core_of registers.now state.now)) }
@@ -54,6 +55,7 @@ fn core_of(registers: &[u16; 22], state: &[u32; 4]) -> Option<Core>
     })
 }
 
+#[inline(always)]
 fn registers_of(core: Core) -> [u16; 22]
     ensures { result ≡ registers_of core }
 {
@@ -69,6 +71,7 @@ fn registers_of(core: Core) -> [u16; 22]
     registers
 }
 
+#[inline(always)]
 fn state_of(core: Core) -> [u32; 4]
     ensures { result ≡ state_of core }
 {
@@ -81,6 +84,7 @@ fn state_of(core: Core) -> [u32; 4]
 }
 
 // The core that a call is made of, or the code of why none is.
+#[inline(always)]
 #[tactic(auto, unfolding(crate::specs::Call::code_of, crate::specs::Numbers::is_core))]
 fn taken(registers: &[u16], state: &[u32], answer: &[u64]) -> Result<Core, u32>
     ensures made { IfOk result (λ core. (code_of registers.now state.now answer.now ≡ ok) × (core ≡ core_of registers.now state.now)) }
@@ -98,6 +102,7 @@ fn taken(registers: &[u16], state: &[u32], answer: &[u64]) -> Result<Core, u32>
 }
 
 // The next core and the answer, into the lent slices.
+#[inline(always)]
 fn put(reply: RunReply, registers: &mut [u16], state: &mut [u32], answer: &mut [u64])
     requires { (length registers.old ≡ 22) × (length state.old ≡ 4) × (23 ≤ length answer.old) }
     ensures { (registers.new ≡ registers_of reply.core) × (state.new ≡ state_of reply.core) × (answer.new ≡ onto (answer_numbers (run_answer_of reply.answer)) answer.old) }
