@@ -46,7 +46,7 @@ fn show_load(rt: &impl Print, name: &str, reply: LoadReply) -> io::Result<()> {
     print_core(rt, &reply.core)
 }
 
-// A refused view is said to show zeros.
+// A refused view shows nothing; its line keeps the words that it had when zeros stood there.
 fn show_view(rt: &impl Print, name: &str, core: Core) -> io::Result<()> {
     let reply = core.view();
     match reply.answer {

@@ -108,4 +108,3 @@ module _ (r : Reading) (memory answers : List ℕ) (found : Result ℕ ReplayErr
   as_played n memory' answers' p left =
       (λ j. replay_gave ((sym p ∙ e) j) (sym left j).memory (sym left j).answers)
       ∙ sym (by_core r memory answers (playable_when r (length answers) n (sym e ∙ p)))
-
