@@ -63,8 +63,10 @@ fn digit(b: u8) -> Option<u16>
 fn number(a: u8, b: u8, c: u8, d: u8) -> Option<u16>
     ensures { unwrap_or result 65536 ≡ four_digits (digit_value a) (digit_value b) (digit_value c) (digit_value d) }
 {
-    let (a, b, c, d) = (digit(a), digit(b), digit(c), digit(d));
-    Some(a? * 4096 + b? * 256 + c? * 16 + d?)
+    let (Some(a), Some(b), Some(c), Some(d)) = (digit(a), digit(b), digit(c), digit(d)) else {
+        return None;
+    };
+    Some(a * 4096 + b * 256 + c * 16 + d)
 }
 
 // What follows the spaces at the front.
