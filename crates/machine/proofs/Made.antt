@@ -28,7 +28,7 @@ every_list_made memory calls kept =
 
 pub contracts_kept : ContractsKept
 contracts_kept c next text M M' b l r v κ κ' =
-    (λ e. e, λ e j. e j M.now, λ e. e, λ e. e, λ e. e, λ e j. e j M.now)
+    (λ e. e, λ e j. e j M.now, λ e. e, λ e. e, λ e. e, λ e j. e.0 j M.now)
 
 pub nothing_asked : NothingAsked
 nothing_asked c text M b κ κ' = (tt, tt, tt, tt, tt, tt)

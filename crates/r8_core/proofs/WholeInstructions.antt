@@ -6,8 +6,8 @@ use mathlib.Core.List.{List}
 use Prim.Native.Nat.{ℕ, zero, suc, ◌+◌, ◌-◌, ◌≤◌, ◌<◌}
 use native.Mathlib.Omega.{arith}
 use native.Mathlib.Nat.{add-zero, zero-add}
-use borrow.Author.Tests.{leb-true, le-leb}
-use lib.Dec.{leb}
+use borrow.Author.Tests.{ltb-true, ltb-false, leb-true, le-leb}
+use lib.Dec.{ltb, leb}
 use lib.ListN.{length, length-set}
 use Rattle.isa.specs.Fields.{field_t, field_a, field_b}
 use Rattle.table.specs.Table.{kind_of}
@@ -58,6 +58,13 @@ goes_on_when s left e =
     let tests = both (is_going s) (leb longest left) e in
     (tests.0, leb-true longest left tests.1)
 
+-- the loop's test of it, which asks too whether one more is to be
+pub one_asked : (s : Working) (more : ℕ) → cond (has_room s.stop s.left.0) (ltb 0 more) false ≡ true
+    → (has_room s.stop s.left.0 ≡ true) × (longest ≤ s.left.0) × (0 < more)
+one_asked s more e =
+    let tests = both (has_room s.stop s.left.0) (ltb 0 more) e in
+    (tests.0, (goes_on_when s.stop s.left.0 tests.0).1, ltb-true 0 more tests.1)
+
 -- a run of a budget b under way
 abbrev pub under : Core → Working → List ℕ → List ℕ → ℕ → ℕ → Progress
 under core s regs M b count =
@@ -89,6 +96,14 @@ no_next (suc n) b p g = ap (λ (goes : Bool). cond goes (instructions_on n b (in
 pub none_asked : (n b : ℕ) (p : Progress) → n ≤ 0 → instructions_on n b p ≡ p
 unfolding instructions_on
 none_asked n b p e = let none : n ≡ 0 = omega arith in ap (λ (n : ℕ). instructions_on n b p) none
+
+-- the test that is not passed
+pub not_asked : (n b : ℕ) (p : Progress) → cond (has_room p.core.stop (b - p.used)) (ltb 0 n) false ≡ false → instructions_on n b p ≡ p
+not_asked n b p = by (has_room p.core.stop (b - p.used)) refl
+  where
+    by : (room : Bool) → has_room p.core.stop (b - p.used) ≡ room → cond room (ltb 0 n) false ≡ false → instructions_on n b p ≡ p
+    by true e none = none_asked n b p (ltb-false 0 n none)
+    by false e none = no_next n b p e
 
 -- q is k cycles on from p, within a budget
 record Along (b : ℕ) (p q : Progress) : Type 0 where

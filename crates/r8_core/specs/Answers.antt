@@ -3,7 +3,7 @@ use Rattle.std.specs.Prelude.{List, ℕ, Result, Ok, Err}
 use Rattle.refusals.specs.Refusals.{refusal_number}
 use Rattle.refusals.specs.declared.Refusal.{Refusal}
 use Rattle.listing.specs.Answers.{fault_number}
-use Rattle.r8_core.specs.Cores.{visible}
+use Rattle.r8_core.specs.Cores.{visible, fresh_core}
 use Rattle.r8_core.specs.Calls.{Answer, done, stored, ran, viewed, refused, refused_at, Reply}
 use Rattle.r8_core.specs.declared.Core.{Core}
 use Rattle.r8_core.specs.declared.Ran.{Ran}
@@ -38,6 +38,11 @@ shown core =
       due = core.due;
       clock = core.clock;
     }
+
+-- what a view showed; a refused one answers its number alone, and the papers leave free what it shows: it is a fresh core's snapshot
+abbrev pub snapshot_of : Result Snapshot Refusal → Snapshot
+snapshot_of (Ok s) = s
+snapshot_of (Err why) = shown fresh_core
 
 -- what each call gave back, with the memory as it then is. Reset and view are lent none and cannot change it: theirs are functions of the
 -- memory there is, and hand it on

@@ -18,7 +18,7 @@ ghost use Rattle.r8_core.specs.WholeInstructions.{working_from, seen, joined, ef
 ghost use Rattle.r8_core.specs.Numbers.{is_going, longest, clock_full, view_number, load_number, run_number};
 ghost use Rattle.r8_core.specs.Progress.{starting, cycle_on};
 ghost use Rattle.r8_core.specs.Calls.{ran, going_end, end_of, reset, load, run, step, view};
-ghost use Rattle.r8_core.specs.Answers.{run_answer_of, shown, reset_gave, load_gave, run_gave, view_gave};
+ghost use Rattle.r8_core.specs.Answers.{run_answer_of, shown, snapshot_of, reset_gave, load_gave, run_gave, view_gave};
 
 use alu::Outcome;
 use effects::{Effect, Executed, Hidden, Stop, Store};
@@ -142,6 +142,18 @@ pub type RunReply = Answered<Result<Ran, Refusal>>;
 // What a view shows, or why it is refused.
 pub type ViewReply = Answered<Result<Snapshot, Refusal>>;
 
+impl Answered<Result<Snapshot, Refusal>> {
+    // What a view shows. A refused one answers its number alone, and the papers leave free what it shows: it is a fresh core's snapshot.
+    pub fn snapshot(self) -> Snapshot
+        ensures { result ≡ snapshot_of self.answer }
+    {
+        match self.answer {
+            Ok(snapshot) => snapshot,
+            Err(_) => fresh().snapshot(),
+        }
+    }
+}
+
 // A fresh core: zero everywhere, going, with cycle 1 due.
 pub fn fresh() -> Core
     ensures { result ≡ fresh_core }
@@ -231,6 +243,13 @@ impl Working {
         ensures { result ≡ has_room self.stop self.left.0 }
     {
         is_going(self.stop) && LONGEST <= self.left.0
+    }
+
+    // And is one more asked? Last, so that instructions that do not stop skip no test that they need: run takes longer where it is asked first.
+    fn may_go_on(self, more: u32) -> bool
+        ensures { result ≡ cond (has_room self.stop self.left.0) (ltb 0 more) false }
+    {
+        self.has_room() && 0 < more
     }
 
     // What an instruction can change, as it is with PC one past it.
@@ -485,7 +504,7 @@ impl Core {
         let mut regs = self.regs;
         let mut state = self.working_from(b);
         let mut more = most;
-        while 0 < more && state.has_room() {
+        while state.may_go_on(more) {
             state = state.instruct(&mut regs, memory);
             more -= 1;
         }
@@ -593,10 +612,11 @@ impl Core {
 
     // A fresh core for this one.
     #[tactic(auto, unfolding(crate::specs::Calls::reset))]
-    pub fn reset(self) -> Core
+    pub fn reset(mut self) -> Core
         ensures { reset_gave result ≡ reset self }
     {
-        fresh()
+        self = fresh();
+        self
     }
 
     // A listing, checked and stored.
@@ -615,35 +635,37 @@ impl Core {
         Ok(listing::store(text, memory)?)
     }
 
-    // b datapath cycles, fewer if the core stops.
+    // b datapath cycles, fewer if the core stops. The core stays by value, here and in step: both take longer where it is lent.
     pub fn run(mut self, b: u32, memory: &mut [u16]) -> RunReply
         ensures { run_gave result memory.new ≡ run b self memory.old }
     {
-        let answer = self.ran(b, memory);
-        Answered { core: self, answer }
-    }
-
-    fn ran(&mut self, b: u32, memory: &mut [u16]) -> Result<Ran, Refusal>
-        ensures { run_gave (record { core = self.new; answer = result }) memory.new ≡ run b self.old memory.old }
-    {
-        self.run_verdict(memory.len(), self.due_in_range(), b)?;
+        if let Err(why) = self.run_verdict(memory.len(), self.due_in_range(), b) {
+            return Answered {
+                core: self,
+                answer: Err(why),
+            };
+        }
         let mut used = Cycles(0);
         let mut finished = Instructions(0);
         while used.0 < b && is_going(self.stop) {
             let moved = self.instructions_or_cycle(b - used.0, memory);
             used.0 += moved.cycles.0;
             finished.0 += moved.instructions.0;
-            *self = moved.core;
+            self = moved.core;
         }
-        Ok(Ran {
-            cycles: used,
-            instructions: finished,
-            end: self.end(),
-        })
+        let end = self.end();
+        Answered {
+            core: self,
+            answer: Ok(Ran {
+                cycles: used,
+                instructions: finished,
+                end,
+            }),
+        }
     }
 
-    // One instruction by the instruction engine; the hidden registers become zero. The core stays by value: a step takes longer where it is lent.
-    pub fn step(self, memory: &mut [u16]) -> RunReply
+    // One instruction by the instruction engine; the hidden registers become zero.
+    pub fn step(mut self, memory: &mut [u16]) -> RunReply
         ensures { run_gave result memory.new ≡ step self memory.old }
     {
         if let Err(why) = self.run_verdict(memory.len(), self.one_due(), LONGEST) {
@@ -653,20 +675,21 @@ impl Core {
             };
         }
         let one = self.instructions(1, LONGEST, memory);
-        let core = one.core.without_hidden();
+        self = one.core.without_hidden();
         Answered {
-            core,
+            core: self,
             answer: Ok(Ran {
                 cycles: one.cycles,
                 instructions: one.instructions,
-                end: core.end(),
+                end: self.end(),
             }),
         }
     }
 
     // All but the hidden registers, of a core with cycle 1 due.
     pub fn view(self) -> ViewReply
-        ensures { view_gave result ≡ view self }
+        ensures reply { view_gave result ≡ view self }
+        ensures snapshot { snapshot_of result.answer ≡ shown (cond (due_one self) self fresh_core) }
     {
         let answer = self.viewed();
         Answered { core: self, answer }
@@ -675,7 +698,8 @@ impl Core {
     // A view is refused with 7 alone.
     #[tactic(auto, unfolding(crate::specs::Calls::view, crate::specs::Numbers::view_number, refusals::specs::Refusals::first_number))]
     fn viewed(self) -> Result<Snapshot, Refusal>
-        ensures { view_gave (record { core = self; answer = result }) ≡ view self }
+        ensures snapshot { snapshot_of result ≡ shown (cond (due_one self) self fresh_core) }
+        ensures reply { view_gave (record { core = self; answer = result }) ≡ view self }
     {
         if !self.one_due() {
             return Err(Refusal::WrongCycle);

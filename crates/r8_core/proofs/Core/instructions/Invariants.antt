@@ -13,9 +13,9 @@ pub record Underway (whole : Progress) (core : Core) (before : List ℕ) (most b
   pub bank : length regs ≡ 16
   pub within : state.left.0 ≤ b
 
-abbrev pub invariant-loop-more : goal.invariant-loop-more
-invariant-loop-more l =
+abbrev pub invariant-loop-regs : goal.invariant-loop-regs
+invariant-loop-regs l =
     Underway (instructions_on l.fn.most l.fn.b (starting l.fn.self l.fn.memory)) l.fn.self l.fn.memory l.fn.most l.fn.b l.state l.regs l.memory l.more
 
-abbrev pub decreases-loop-more : goal.decreases-loop-more
-decreases-loop-more l = l.more
+abbrev pub decreases-loop-regs : goal.decreases-loop-regs
+decreases-loop-regs l = l.more

@@ -32,7 +32,7 @@ returns c =
     let none = sym (c.run_verdict.ensures ∙ ap at c.one_due.ensures) ∙ ap verdict_number c.in_default.is in
     let going = (ready _ _ _ _ _ none).going in
     let one = c.instructions-one.ensures ∙ just_one a.self a.memory.now going in
-    let core = c.without_hidden-core.ensures ∙ (λ j. with_hidden no_hidden (one j).core) in
+    let core = c.without_hidden-self.ensures ∙ (λ j. with_hidden no_hidden (one j).core) in
     let end = c.end.ensures ∙ (λ j. end_of (core j).stop (due_one (core j))) in
     (λ j. record { answer = ran (one j).used (one j).finished (end j); core = core j; memory = (one j).memory })
     ∙ as_step a.self a.memory.now
