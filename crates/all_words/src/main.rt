@@ -34,6 +34,19 @@ fn count_all() -> Counts {
     counts
 }
 
+// A word in its four digits.
+#[derive(Clone, Copy)]
+struct Word(u16);
+
+impl fmt::Display for Word {
+    fn fmt<W: fmt::Write>(&self, f: &mut fmt::Formatter<W>) -> fmt::Result {
+        for digit in hexadecimal::word_text(self.0) {
+            f.write_char(char::from(digit))?;
+        }
+        Ok(())
+    }
+}
+
 fn binary_name(op: BinaryOp) -> &'static str {
     match op {
         BinaryOp::Add => "ADD",
@@ -109,8 +122,8 @@ impl fmt::Display for Shown {
 
 fn print_word(rt: &impl Print, word: u16) -> io::Result<()> {
     match forms::word_to_form(word) {
-        Ok(form) => println!(rt; "{word:04X} {}", Shown(form)),
-        Err(_) => println!(rt; "{word:04X} undefined"),
+        Ok(form) => println!(rt; "{} {}", Word(word), Shown(form)),
+        Err(_) => println!(rt; "{} undefined", Word(word)),
     }
 }
 

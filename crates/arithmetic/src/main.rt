@@ -7,6 +7,31 @@ use alu::Outcome;
 use isa::{BinaryOp, ConstantOp, Flags, UnaryOp};
 use std::{fmt, io};
 
+// A word in its four digits.
+#[derive(Clone, Copy)]
+struct Word(u16);
+
+impl fmt::Display for Word {
+    fn fmt<W: fmt::Write>(&self, f: &mut fmt::Formatter<W>) -> fmt::Result {
+        for digit in hexadecimal::word_text(self.0) {
+            f.write_char(char::from(digit))?;
+        }
+        Ok(())
+    }
+}
+
+// A byte in its two digits, the last two of a word's.
+#[derive(Clone, Copy)]
+struct Byte(u8);
+
+impl fmt::Display for Byte {
+    fn fmt<W: fmt::Write>(&self, f: &mut fmt::Formatter<W>) -> fmt::Result {
+        let [_, _, high, low] = hexadecimal::word_text(u16::from(self.0));
+        f.write_char(char::from(high))?;
+        f.write_char(char::from(low))
+    }
+}
+
 // N, Z, C, V.
 #[derive(Clone, Copy)]
 struct Nzcv(Flags);
@@ -60,7 +85,7 @@ struct Shown(Outcome);
 impl fmt::Display for Shown {
     fn fmt<W: fmt::Write>(&self, f: &mut fmt::Formatter<W>) -> fmt::Result {
         let Outcome { value, flags } = self.0;
-        write!(f, "{value:04X} {}", Nzcv(flags))
+        write!(f, "{} {}", Word(value), Nzcv(flags))
     }
 }
 
@@ -73,7 +98,12 @@ fn show_binary(
     before: Before,
 ) -> io::Result<()> {
     let outcome = alu::binary(op, p, q, before.flags());
-    println!(rt; "{name} {p:04X} {q:04X}{before} = {}", Shown(outcome))
+    println!(rt;
+        "{name} {} {}{before} = {}",
+        Word(p),
+        Word(q),
+        Shown(outcome)
+    )
 }
 
 fn show_constant(
@@ -85,12 +115,17 @@ fn show_constant(
     before: Before,
 ) -> io::Result<()> {
     let outcome = alu::constant(op, p, k, before.flags());
-    println!(rt; "{name} {p:04X} {k:02X}{before} = {}", Shown(outcome))
+    println!(rt;
+        "{name} {} {}{before} = {}",
+        Word(p),
+        Byte(k),
+        Shown(outcome)
+    )
 }
 
 fn show_unary(rt: &impl Print, op: UnaryOp, name: &str, p: u16, before: Before) -> io::Result<()> {
     let outcome = alu::unary(op, p, before.flags());
-    println!(rt; "{name} {p:04X}{before} = {}", Shown(outcome))
+    println!(rt; "{name} {}{before} = {}", Word(p), Shown(outcome))
 }
 
 fn show_add(rt: &impl Print, p: u16, q: u16) -> io::Result<()> {

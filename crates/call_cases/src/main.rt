@@ -3,13 +3,29 @@
 
 use isa::Cycles;
 use r8_core::{Core, ListingError, LoadReply, Ran, RunReply, Snapshot};
-use std::io;
+use std::{fmt, io};
+
+// A word in its four digits.
+#[derive(Clone, Copy)]
+struct Word(u16);
+
+impl fmt::Display for Word {
+    fn fmt<W: fmt::Write>(&self, f: &mut fmt::Formatter<W>) -> fmt::Result {
+        for digit in hexadecimal::word_text(self.0) {
+            f.write_char(char::from(digit))?;
+        }
+        Ok(())
+    }
+}
 
 // What a core has beside its registers, at the end of a line.
 fn print_core(rt: &impl Print, core: &Core) -> io::Result<()> {
     println!(rt;
-        "; PC {:04X} due {} clock {} IR {:04X}",
-        core.pc, core.due, core.clock.0, core.hidden.ir
+        "; PC {} due {} clock {} IR {}",
+        Word(core.pc),
+        core.due,
+        core.clock.0,
+        Word(core.hidden.ir)
     )
 }
 
@@ -51,7 +67,7 @@ fn show_view(rt: &impl Print, name: &str, core: Core) -> io::Result<()> {
     let reply = core.view();
     match reply.answer {
         Ok(Snapshot { pc, clock, .. }) => {
-            print!(rt; "{name}: viewed, shows PC {pc:04X} clock {}", clock.0)?
+            print!(rt; "{name}: viewed, shows PC {} clock {}", Word(pc), clock.0)?
         }
         Err(why) => { print!(rt; "{name}: refused {}, shows PC 0000 clock 0", u8::from(why))? }
     }

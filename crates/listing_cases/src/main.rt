@@ -3,7 +3,20 @@
 #![tactic(auto)]
 
 use listing::FaultAt;
-use std::io;
+use std::{fmt, io};
+
+// A word in its four digits.
+#[derive(Clone, Copy)]
+struct Word(u16);
+
+impl fmt::Display for Word {
+    fn fmt<W: fmt::Write>(&self, f: &mut fmt::Formatter<W>) -> fmt::Result {
+        for digit in hexadecimal::word_text(self.0) {
+            f.write_char(char::from(digit))?;
+        }
+        Ok(())
+    }
+}
 
 // What the word at an index is before a store.
 fn filler(i: usize) -> u16 {
@@ -23,7 +36,7 @@ fn has_changed(at: &(usize, &u16)) -> bool {
 // Prints the first four words that changed, and how many did.
 fn print_changes(rt: &impl Print, memory: &[u16]) -> io::Result<()> {
     for (i, word) in memory.iter().enumerate().filter(has_changed).take(4) {
-        print!(rt; " {:04X}={word:04X}", i % 65536)?;
+        print!(rt; " {}={}", Word((i % 65536) as u16), Word(*word))?;
     }
     let count = memory.iter().enumerate().filter(has_changed).count();
     println!(rt; ", changed {count}")

@@ -37,6 +37,19 @@ impl fmt::Display for Register {
     }
 }
 
+// A word in its four digits.
+#[derive(Clone, Copy)]
+struct Word(u16);
+
+impl fmt::Display for Word {
+    fn fmt<W: fmt::Write>(&self, f: &mut fmt::Formatter<W>) -> fmt::Result {
+        for digit in hexadecimal::word_text(self.0) {
+            f.write_char(char::from(digit))?;
+        }
+        Ok(())
+    }
+}
+
 // Flags, written NZCV.
 #[derive(Clone, Copy)]
 struct Nzcv(Flags);
@@ -93,11 +106,11 @@ fn print_claim(rt: &impl Print, address: u16, core: &Core) -> io::Result<()> {
         return Ok(());
     };
     let found = register.held(core);
-    print!(rt; "{address:04X} {register} {found:04X}")?;
+    print!(rt; "{} {register} {}", Word(address), Word(found))?;
     if found == value {
         println!(rt; ", as 003 says")
     } else {
-        println!(rt; ", where 003 says {value:04X}")
+        println!(rt; ", where 003 says {}", Word(value))
     }
 }
 
@@ -132,7 +145,7 @@ fn print_steps(rt: &impl Print, mut core: Core, count: u32, memory: &mut [u16]) 
 fn print_registers(rt: &impl Print, regs: &[u16; 16]) -> io::Result<()> {
     for (i, value) in regs.iter().enumerate() {
         let gap = if i % 4 == 3 { '\n' } else { ' ' };
-        print!(rt; "R{i} {value:04X}{gap}")?;
+        print!(rt; "R{i} {}{gap}", Word(*value))?;
     }
     Ok(())
 }
@@ -140,9 +153,9 @@ fn print_registers(rt: &impl Print, regs: &[u16; 16]) -> io::Result<()> {
 fn print_snapshot(rt: &impl Print, shown: &Snapshot) -> io::Result<()> {
     print_registers(rt, &shown.regs)?;
     println!(rt;
-        "PC {:04X} SP {:04X} NZCV {} clock {}",
-        shown.pc,
-        shown.sp,
+        "PC {} SP {} NZCV {} clock {}",
+        Word(shown.pc),
+        Word(shown.sp),
         Nzcv(shown.flags),
         shown.clock.0
     )
