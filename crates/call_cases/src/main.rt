@@ -2,7 +2,7 @@
 #![tactic(auto)]
 
 use isa::Cycles;
-use r8_core::{Core, ListingError, LoadReply, Ran, RunReply, Snapshot};
+use r8_core::{Core, ListingError, LoadReply, Ran, RunReply};
 use std::{fmt, io};
 
 // A word in its four digits.
@@ -62,15 +62,14 @@ fn show_load(rt: &impl Print, name: &str, reply: LoadReply) -> io::Result<()> {
     print_core(rt, &reply.core)
 }
 
-// A refused view shows nothing; its line keeps the words that it had when zeros stood there.
 fn show_view(rt: &impl Print, name: &str, core: Core) -> io::Result<()> {
     let reply = core.view();
     match reply.answer {
-        Ok(Snapshot { pc, clock, .. }) => {
-            print!(rt; "{name}: viewed, shows PC {} clock {}", Word(pc), clock.0)?
-        }
-        Err(why) => { print!(rt; "{name}: refused {}, shows PC 0000 clock 0", u8::from(why))? }
+        Ok(_) => print!(rt; "{name}: viewed")?,
+        Err(why) => print!(rt; "{name}: refused {}", u8::from(why))?,
     }
+    let shown = reply.snapshot();
+    print!(rt; ", shows PC {} clock {}", Word(shown.pc), shown.clock.0)?;
     print_core(rt, &reply.core)
 }
 
