@@ -29,7 +29,8 @@ use Rattle.r8_core.specs.declared.Ran.{Ran}
 use Rattle.r8_core.proofs.Taken.{reply_own}
 use Rattle.refusals.proofs.First.{passed, none_left}
 use Rattle.r8_core.proofs.Replies.{run_starts}
-use Rattle.trace.specs.Trace.{instructions_of, Finding, Trace, answered, too_long, no_room, rows_of, trace_of, traced_on, after_load, traced, finding_of, error_of, trace_gave}
+use Rattle.trace.specs.Trace.{instructions_of, Finding, Trace, answered, too_long, no_room, rows_of, trace_of, traced_on, after_load, traced, finding_of, trace_gave}
+use Rattle.trace.specs.TraceParts.{error_of}
 use Rattle.trace.specs.declared.TraceError.{TraceError}
 
 -- a run of a fresh core on 16,384 words is taken

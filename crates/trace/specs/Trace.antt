@@ -9,8 +9,6 @@ use Rattle.layout.specs.Layout.{flags_number}
 use Rattle.r8_core.specs.declared.Ran.{Ran}
 use Rattle.trace.specs.declared.TraceError.{TraceError}
 use Rattle.trace.specs.declared.TraceError.TheVariants.{Faulty, TooLong, NoRoom}
-use Rattle.r8_core.specs.declared.ListingError.{ListingError}
-use Rattle.r8_core.specs.declared.ListingError.TheVariants as listing_error
 
 -- the cycles and the instructions of an answer to a run or a step; of another answer, none
 abbrev pub cycles_of : Answer → ℕ
@@ -91,11 +89,6 @@ finding_of (Ok r) = answered (ran r.cycles.0 r.instructions.0 r.end)
 finding_of (Err (Faulty at)) = answered (refused_at (fault_number at.fault) at.offset)
 finding_of (Err TooLong) = too_long
 finding_of (Err NoRoom) = no_room
-
--- why a listing that is not loaded is not traced: its fault; that nothing else comes of a load is what `traced` says
-abbrev pub error_of : ListingError → TraceError
-error_of (listing_error.Faulty at) = Faulty at
-error_of (listing_error.Refused why) = TooLong
 
 abbrev pub trace_gave : Result Ran TraceError → List ℕ → Trace
 trace_gave answer rows = record { finding = finding_of answer; rows = rows }

@@ -4,7 +4,8 @@
 ghost use Rattle.std.specs.Prelude.{◌≡◌, ◌++◌, ◌*◌, ◌≤◌, length, drop};
 ghost use Rattle.r8_core.specs.Answers.{run_answer_of};
 ghost use Rattle.r8_core.specs.Calls.{step};
-ghost use Rattle.trace.specs.Trace.{cycles_of, row_of, rows_of, traced_on, traced, error_of, trace_gave};
+ghost use Rattle.trace.specs.Trace.{cycles_of, row_of, rows_of, traced_on, traced, trace_gave};
+ghost use Rattle.trace.specs.TraceParts.{error_of};
 
 use isa::Cycles;
 use listing::FaultAt;
