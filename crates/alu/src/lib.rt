@@ -55,7 +55,8 @@ fn difference_overflows(p: bool, q: bool, r: bool) -> bool
 fn add(p: u16, q: u16) -> Outcome
     ensures { result ≡ added p q }
 {
-    let (value, carry) = p.overflowing_add(q);
+    let value = words::add(p, q);
+    let carry = value < p; // a sum that wraps is less than either operand
     let overflow = sum_overflows(top_bit(p), top_bit(q), top_bit(value));
     with_all(value, carry, overflow)
 }
@@ -63,9 +64,10 @@ fn add(p: u16, q: u16) -> Outcome
 fn subtract(p: u16, q: u16) -> Outcome
     ensures { result ≡ subtracted p q }
 {
-    let (value, borrow) = p.overflowing_sub(q);
+    let value = words::subtract(p, q);
+    let carry = q <= p;
     let overflow = difference_overflows(top_bit(p), top_bit(q), top_bit(value));
-    with_all(value, !borrow, overflow)
+    with_all(value, carry, overflow)
 }
 
 // ADD, SUB, AND, OR, XOR of Ra and Rb.
