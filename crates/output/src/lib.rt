@@ -66,12 +66,12 @@ impl<'a> Page<'a> {
     }
 
     // Text, then a number in base ten.
-    #[tactic(auto, using(crate::proofs::Stores::put_both))]
     pub fn put_number(&mut self, name: &[u8], n: u64)
         ensures { Puts self.old self.new (name.now ++ decimal_text n) }
     {
         self.put(name);
-        self.put(text::decimal(n, &mut text::Buffer::new()));
+        let figure = text::decimal(n);
+        self.put(&figure.digits[figure.start..]);
     }
 
     // Text, then a word in hexadecimal.
