@@ -15,12 +15,22 @@ pub struct Page<'a> {
 }
 
 impl<'a> Page<'a> {
+    // A page that is filled from its start on.
     pub fn new(bytes: &'a mut [u8]) -> Page<'a>
         ensures same_reference { result.bytes.ghost_name ≡ bytes.entry.ghost_name }
         ensures bytes { result.bytes.now ≡ bytes.old }
         ensures at { result.at ≡ 0 }
     {
-        Page { bytes, at: 0 }
+        Page::from_place(bytes, 0)
+    }
+
+    // A page that is filled from a place on. The bytes before it count as put.
+    pub fn from_place(bytes: &'a mut [u8], at: usize) -> Page<'a>
+        ensures same_reference { result.bytes.ghost_name ≡ bytes.entry.ghost_name }
+        ensures bytes { result.bytes.now ≡ bytes.old }
+        ensures at { result.at ≡ at }
+    {
+        Page { bytes, at }
     }
 
     // How many bytes are put on it.
@@ -38,7 +48,7 @@ impl<'a> Page<'a> {
         bytes.get(..self.at).unwrap_or(bytes)
     }
 
-    // Begins the page anew.
+    // Begins the page anew, from its start.
     pub fn clear(&mut self)
         ensures same_reference { self.new.bytes.ghost_name ≡ self.old.bytes.ghost_name }
         ensures bytes { self.new.bytes.now ≡ self.old.bytes.now }
@@ -66,12 +76,12 @@ impl<'a> Page<'a> {
     }
 
     // Text, then a number in base ten.
-    #[tactic(auto, using(crate::proofs::Stores::put_both))]
     pub fn put_number(&mut self, name: &[u8], n: u64)
         ensures { Puts self.old self.new (name.now ++ decimal_text n) }
     {
         self.put(name);
-        self.put(text::decimal(n, &mut text::Buffer::new()));
+        let figure = text::decimal(n);
+        self.put(&figure.digits[figure.start..]);
     }
 
     // Text, then a word in hexadecimal.

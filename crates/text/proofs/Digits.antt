@@ -1,16 +1,15 @@
 -- The theorems of specs/Theorems.antt on decimal text, and the laws that its code goes by: a digit more at a time, from the last.
-use mathlib.Core.Path.{◌≡◌, refl, sym, ap}
+use mathlib.Core.Path.{◌≡◌, refl, ap, ◌∙◌}
 use mathlib.Core.Bool.{Bool, true, false, cond}
-use mathlib.Core.List.{List, [], ◌∷◌, ◌++◌}
+use mathlib.Core.List.{List, [], ◌∷◌, ◌++◌, append_assoc}
 use Prim.Native.Nat.{ℕ, zero, suc, ◌+◌, ◌-◌, ◌*◌, ◌/◌, ◌^◌, ◌≤◌, ◌<◌}
 use native.Mathlib.Nat.{div-lt_iff_lt-mul, pow-suc, mod-eq_of_lt}
 use native.Mathlib.Omega.{arith}
 use borrow.Author.Tests.{ltb-true, ltb-false, lt-ltb, le-ltb}
 use lib.Dec.{ltb}
-use lib.ListN.{length, get_or, length-append, get_or-append}
-use Rattle.std.specs.Fmt.{decimal}
-use Rattle.std.proofs.lemmas.Fmt.{AppendsLastDigit, decimal_from_appends, length-decimal-le_succ}
-use Rattle.text.specs.Decimal.{last_digit, decimal_in, decimal_text, read_after}
+use lib.ListN.{length, take, drop, get_or, set, replicate, length-append, length-replicate, get_or-append}
+use lib.Seq.{take_all, drop_at}
+use Rattle.text.specs.Decimal.{last_digit, decimal_in, decimal_text, at_end, read_after}
 use Rattle.text.specs.Theorems.{DecimalBack, DecimalDigits, NoLeadingZero, DecimalAtMost}
 
 -- more room gives no more digits
@@ -94,15 +93,59 @@ decimal_at_most = by_digits (λ n l. (k : ℕ) → n < 10 ^ suc k → length l �
         rw (length-append l (last_digit n ∷ []))
         (omega (arith, few k ((div-lt_iff_lt-mul {k = 10} {x = n} {y = 10 ^ suc k} (omega arith)).1 (rw (pow-suc 10 (suc k)) at low))))
 
--- std prints a number so
-appends : AppendsLastDigit decimal_in
-unfolding decimal_in
-appends = record {
-  one = λ k n small. rw (lt-ltb n 10 small, mod-eq_of_lt small) refl;
-  more = λ k n large. rw (le-ltb n 10 large) refl;
-}
+-- a number's digits are all at the end of 20 bytes
+module _ (n : ℕ) (low : n < 10 ^ 20) where
+  few : length (decimal_text n) ≤ 20
+  few = decimal_at_most n 19 low
 
-pub as_printed : (n : ℕ) → n < 2 ^ 64 → decimal n ≡ decimal_text n
-unfolding decimal_text
-as_printed n low =
-    sym (decimal_from_appends decimal_in appends (suc n) n low (omega (arith, length-decimal-le_succ n low)))
+  pub end_length : length (at_end (decimal_text n)).digits ≡ 20
+  end_length =
+      rw (length-append (replicate (20 - length (decimal_text n)) 32) (decimal_text n), length-replicate {A = ℕ} (20 - length (decimal_text n)) 32)
+      (omega (arith, few))
+
+  pub end_text : take (20 - (at_end (decimal_text n)).start) (drop (at_end (decimal_text n)).start (at_end (decimal_text n)).digits) ≡ decimal_text n
+  end_text =
+      let start = 20 - length (decimal_text n) in
+      ap (take (20 - start)) (drop_at (replicate start 32) (decimal_text n) start (length-replicate {A = ℕ} start 32))
+      ∙ take_all (20 - start) (decimal_text n) (omega (arith, few))
+
+-- digits under way: those put stand at the end of 20 bytes, and those of the rest come before them
+pub record Put (whole digits : List ℕ) (start rest : ℕ) : Type 0 where
+  pub last : List ℕ
+  pub text : whole ≡ decimal_text rest ++ last
+  pub bytes : digits ≡ replicate start 32 ++ last
+  pub size : start + length last ≡ 20
+  pub some : 0 < start
+  pub low : rest < 10 ^ start
+
+stored : (s digit : ℕ) (last : List ℕ) → set (replicate (suc s) 32 ++ last) s digit ≡ replicate s 32 ++ digit ∷ last
+stored zero digit last = refl
+stored (suc s) digit last = ap (λ (l : List ℕ). 32 ∷ l) (stored s digit last)
+
+module _ (whole digits : List ℕ) (rest digit : ℕ) (e : digit ≡ last_digit rest) where
+  -- the first digit is put last
+  pub put_first : (start : ℕ) → Put whole digits start rest → rest < 10
+      → record { digits = set digits (start - 1) digit; start = start - 1 } ≡ at_end whole
+  put_first zero h small = absurd (omega (arith, h.some))
+  put_first (suc s) h small =
+      let text : whole ≡ last_digit rest ∷ h.last = h.text ∙ rw (one_digit rest small) in
+      let less : suc s - 1 ≡ s = omega arith in
+      let start : 20 - length whole ≡ s = omega (arith, ap length text, h.size) in
+      let bytes : set digits s digit ≡ replicate s 32 ++ whole = rw (h.bytes, text, e) (stored s (last_digit rest) h.last) in
+      rw (less, start, bytes)
+
+  -- another
+  pub put_other : (start : ℕ) → Put whole digits start rest → 10 ≤ rest → Put whole (set digits (start - 1) digit) (start - 1) (rest / 10)
+  put_other zero h large = absurd (omega (arith, h.some))
+  put_other (suc zero) h large = absurd (omega (arith, h.low))
+  put_other (suc (suc s)) h large =
+      let less : suc (suc s) - 1 ≡ suc s = omega arith in
+      let low = h.low in
+      rw less record {
+        last = digit ∷ h.last;
+        text = h.text ∙ rw (digit_more rest large, e) (append_assoc (decimal_text (rest / 10)) (last_digit rest ∷ []) h.last);
+        bytes = rw h.bytes (stored (suc s) digit h.last);
+        size = omega (arith, h.size);
+        some = omega arith;
+        low = (div-lt_iff_lt-mul {k = 10} {x = rest} {y = 10 ^ suc s} (omega arith)).1 (rw (pow-suc 10 (suc s)) at low);
+      }

@@ -2,11 +2,10 @@
 #![tactic(auto)]
 
 ghost use Rattle.std.specs.Prelude.{◌≡◌};
-ghost use Rattle.text.specs.Decimal.{last_digit, decimal_text};
+ghost use Rattle.text.specs.Decimal.{last_digit, decimal_text, at_end};
 ghost use Rattle.text.specs.Text.{bit_text, flags_text, line_text, letter_text};
 
 use isa::{Cycles, Flags};
-pub use itoa::Buffer;
 use r8_core::End;
 
 fn last_digit(n: u64) -> u8
@@ -15,12 +14,27 @@ fn last_digit(n: u64) -> u8
     b'0' + (n % 10) as u8
 }
 
-// A number in base ten. The text stands in a lent buffer, which has room for any number.
-#[tactic(auto, using(crate::proofs::Digits::as_printed))]
-pub fn decimal(n: u64, buffer: &mut Buffer) -> &[u8]
-    ensures { result.now ≡ decimal_text n }
+// A number in base ten, at the end of as many bytes as one has digits at most, spaces before it, and where it starts.
+#[derive(Drop)]
+pub struct Figure {
+    pub digits: [u8; 20],
+    pub start: usize,
+}
+
+pub fn decimal(n: u64) -> Figure
+    ensures { result ≡ at_end (decimal_text n) }
 {
-    buffer.format(n).as_bytes()
+    let mut digits = [b' '; 20];
+    let mut start: usize = 20;
+    let mut rest = n;
+    loop {
+        start -= 1;
+        digits[start] = last_digit(rest);
+        if rest < 10 {
+            return Figure { digits, start };
+        }
+        rest /= 10;
+    }
 }
 
 fn bit(set: bool) -> u8
