@@ -33,7 +33,8 @@ const LONGEST: u32 = 4;
 #[derive(Clone, Copy)]
 pub struct Instructions(pub u32);
 
-// The core. `due` is the cycle due next, 1 to 4 on every core that calls make of a fresh one. A core is written out in `fresh` alone.
+// The core. `due` is the cycle due next, 1 to 4 on every core that calls make of a fresh one. A core is written out in `fresh` and `by_fields`
+// alone.
 #[derive(Clone, Copy)]
 pub struct Core {
     pub regs: [u16; 16],
@@ -536,6 +537,25 @@ impl Core {
         }
     }
 
+    // The same core, copied field by field: what was just written by fields is read again at once, and a copy of several fields at a time waits.
+    fn by_fields(self) -> Core
+        ensures { result ≡ self }
+    {
+        let Hidden { ir, ra, rb, ralu } = self.hidden;
+        let Flags { n, z, c, v } = self.flags;
+        let regs = self.regs;
+        Core {
+            regs,
+            pc: self.pc,
+            sp: self.sp,
+            flags: Flags { n, z, c, v },
+            hidden: Hidden { ir, ra, rb, ralu },
+            due: self.due,
+            stop: self.stop,
+            clock: Cycles(self.clock.0),
+        }
+    }
+
     // The hidden registers zero.
     fn without_hidden(mut self) -> Core
         ensures { result ≡ with_hidden no_hidden self }
@@ -651,7 +671,7 @@ impl Core {
             let moved = self.instructions_or_cycle(b - used.0, memory);
             used.0 += moved.cycles.0;
             finished.0 += moved.instructions.0;
-            self = moved.core;
+            self = moved.core.by_fields();
         }
         let end = self.end();
         Answered {

@@ -64,7 +64,7 @@ loop-used-preserved c =
     let on =
     onward _ (progress l.self l.memory l.used.0 l.finished.0) _ (sym c.is_going.ensures ∙ c.if-is_going.true)
     c.loop-used-test.true l.invariant.due c.instructions_or_cycle-moved.ensures in
-    record {
+    rw c.by_fields-self.ensures record {
       left = l.invariant.left ∙ ap ran_reply on.left;
       few = omega (arith, on.few, l.invariant.few);
       within = omega (arith, on.below, on.most);
