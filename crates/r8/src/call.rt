@@ -1,5 +1,5 @@
 // A run and a step of a core given as numbers.
-ghost use Rattle.std.specs.Prelude.{◌≡◌, ◌≤◌, ◌<◌, length, get_or, IfOk, IfErr};
+ghost use Rattle.std.specs.Prelude.{◌≡◌, ◌≤◌, ◌<◌, true, false, length, MatchOption, IfOk, IfErr};
 ghost use Rattle.r8_core.specs.Calls.{run, step};
 ghost use Rattle.r8_core.specs.Answers.{run_answer_of};
 ghost use Rattle.layout.specs.Layout.{answer_numbers, onto};
@@ -13,23 +13,29 @@ use isa::Cycles;
 use layout::Answer;
 use r8_core::{Core, RunReply};
 
-fn stop_of(n: u32) -> Stop
-    ensures { result ≡ stop_of n }
+fn stop_of(n: u32) -> Option<Stop>
+    ensures { MatchOption result (2 < n) (λ stop. (n ≤ 2) × (stop ≡ stop_of n)) }
 {
     match n {
-        0 => Stop::Going,
-        1 => Stop::Halted,
-        _ => Stop::Undefined,
+        0 => Some(Stop::Going),
+        1 => Some(Stop::Halted),
+        2 => Some(Stop::Undefined),
+        _ => None,
     }
 }
 
-// The core of these numbers: a fresh one with its fields set, written where it is wanted.
+// The core of these numbers, where they are one's: a fresh one with its fields set.
 #[inline(always)]
-fn core_of(registers: &[u16], state: &[u32]) -> Core
-    requires { (length registers.now ≡ 22) × (length state.now ≡ 4) × (get_or state.now 2 0 ≤ 255) }
-    ensures { result ≡ core_of registers.now state.now }
+#[tactic(auto, unfolding(crate::specs::Numbers::is_core))]
+fn core_of(registers: &[u16; 22], state: &[u32; 4]) -> Option<Core>
+    ensures { MatchOption result (is_core registers.now state.now ≡ false) (λ core. (is_core registers.now state.now ≡ true) × (core ≡ core_of registers.now state.now)) }
 {
+    if 15 < state[0] {
+        return None;
+    }
+    let stop = stop_of(state[1])?;
     let mut core = r8_core::fresh();
+    core.due = u8::try_from(state[2]).ok()?;
     core.regs.copy_from_slice(&registers[..16]);
     core.pc = registers[16];
     core.sp = registers[17];
@@ -40,9 +46,8 @@ fn core_of(registers: &[u16], state: &[u32]) -> Core
         ralu: registers[21],
     };
     core.flags = layout::flags_of(u64::from(state[0]));
-    core.due = state[2] as u8;
     core.clock = Cycles(state[3]);
-    core.with_stop(stop_of(state[1]))
+    Some(core.with_stop(stop))
 }
 
 // Number by number, into the lent slices: an array that is made first and then copied takes a run of one cycle half as long again.
@@ -70,23 +75,22 @@ fn put_state(core: Core, state: &mut [u32])
     state[3] = core.clock.0;
 }
 
-// Whether a call is made of these numbers; or the code of why none is.
+// The core that a call is made of, or the code of why none is.
+#[inline(always)]
 #[tactic(auto, unfolding(crate::specs::Call::code_of, crate::specs::Numbers::is_core))]
-fn taken(registers: &[u16], state: &[u32], answer: &[u64]) -> Result<(), u32>
-    ensures made { IfOk result (λ _. code_of registers.now state.now answer.now ≡ ok) }
-    ensures sizes { IfOk result (λ _. (length registers.now ≡ 22) × (length state.now ≡ 4) × (get_or state.now 2 0 ≤ 255) × (23 ≤ length answer.now)) }
+fn taken(registers: &[u16], state: &[u32], answer: &[u64]) -> Result<Core, u32>
+    ensures made { IfOk result (λ core. (code_of registers.now state.now answer.now ≡ ok) × (core ≡ core_of registers.now state.now)) }
+    ensures sizes { IfOk result (λ _. (length registers.now ≡ 22) × (length state.now ≡ 4) × (23 ≤ length answer.now)) }
     ensures not_made { IfErr result (λ code. (code ≡ code_number (code_of registers.now state.now answer.now)) × (0 < code)) }
 {
-    if registers.len() != 22 || state.len() != 4 {
+    let (Ok(registers), Ok(state)) = (registers.try_into(), state.try_into()) else {
         return Err(codes::NO_CORE);
-    }
-    if 15 < state[0] || 2 < state[1] || 255 < state[2] {
-        return Err(codes::NO_CORE);
-    }
+    };
+    let core = core_of(registers, state).ok_or(codes::NO_CORE)?;
     if answer.len() < 23 {
         return Err(codes::NO_ROOM);
     }
-    Ok(())
+    Ok(core)
 }
 
 // The next core and the answer, into the lent slices.
@@ -111,12 +115,13 @@ pub fn r8_run(
 ) -> u32
     ensures { (result, slices registers.new state.new memory.new answer.new) ≡ called (run b) (slices registers.old state.old memory.old answer.old) }
 {
-    if let Err(code) = taken(registers, state, answer) {
-        return code;
+    match taken(registers, state, answer) {
+        Ok(core) => {
+            put(core.run(b, memory), registers, state, answer);
+            codes::OK
+        }
+        Err(code) => code,
     }
-    let core = core_of(registers, state);
-    put(core.run(b, memory), registers, state, answer);
-    codes::OK
 }
 
 // One instruction by the instruction engine.
@@ -129,10 +134,11 @@ pub fn r8_step(
 ) -> u32
     ensures { (result, slices registers.new state.new memory.new answer.new) ≡ called step (slices registers.old state.old memory.old answer.old) }
 {
-    if let Err(code) = taken(registers, state, answer) {
-        return code;
+    match taken(registers, state, answer) {
+        Ok(core) => {
+            put(core.step(memory), registers, state, answer);
+            codes::OK
+        }
+        Err(code) => code,
     }
-    let core = core_of(registers, state);
-    put(core.step(memory), registers, state, answer);
-    codes::OK
 }
