@@ -246,7 +246,7 @@ impl Working {
         is_going(self.stop) && LONGEST <= self.left.0
     }
 
-    // And is one more asked? Last, so that instructions that do not stop skip no test that they need: run takes longer where it is asked first.
+    // And is one more asked? Asked last: so ordered, instructions that do not stop skip the question whether the core is going.
     fn may_go_on(self, more: u32) -> bool
         ensures { result ≡ cond (has_room self.stop self.left.0) (ltb 0 more) false }
     {
@@ -304,8 +304,8 @@ impl Working {
         }
     }
 
-    #[tactic(auto, using(crate::proofs::Cycles::cost_of_range), unfolding(crate::specs::Instruction::takes, crate::specs::Instruction::memory_after))]
     // The instruction engine: the instruction at PC, with the bank and the memory changed where they lie.
+    #[tactic(auto, using(crate::proofs::Cycles::cost_of_range), unfolding(crate::specs::Instruction::takes, crate::specs::Instruction::memory_after))]
     fn instruct(self, regs: &mut [u16], memory: &mut [u16]) -> Working
         requires { longest ≤ self.left.0 }
         ensures { (result ≡ working_on memory.old regs.old self) × (regs.new ≡ bank_on memory.old regs.old self) × (memory.new ≡ memory_after memory.old (seen self regs.old)) }
@@ -655,36 +655,34 @@ impl Core {
         Ok(listing::store(text, memory)?)
     }
 
-    // b datapath cycles, fewer if the core stops. The core stays by value, here and in step: both take longer where it is lent.
+    // b datapath cycles, fewer if the core stops.
     pub fn run(mut self, b: u32, memory: &mut [u16]) -> RunReply
         ensures { run_gave result memory.new ≡ run b self memory.old }
     {
-        if let Err(why) = self.run_verdict(memory.len(), self.due_in_range(), b) {
-            return Answered {
-                core: self,
-                answer: Err(why),
-            };
-        }
+        let answer = self.ran(b, memory);
+        Answered { core: self, answer }
+    }
+
+    fn ran(&mut self, b: u32, memory: &mut [u16]) -> Result<Ran, Refusal>
+        ensures { run_gave (record { core = self.new; answer = result }) memory.new ≡ run b self.old memory.old }
+    {
+        self.run_verdict(memory.len(), self.due_in_range(), b)?;
         let mut used = Cycles(0);
         let mut finished = Instructions(0);
         while used.0 < b && is_going(self.stop) {
             let moved = self.instructions_or_cycle(b - used.0, memory);
             used.0 += moved.cycles.0;
             finished.0 += moved.instructions.0;
-            self = moved.core.by_fields();
+            *self = moved.core.by_fields();
         }
-        let end = self.end();
-        Answered {
-            core: self,
-            answer: Ok(Ran {
-                cycles: used,
-                instructions: finished,
-                end,
-            }),
-        }
+        Ok(Ran {
+            cycles: used,
+            instructions: finished,
+            end: self.end(),
+        })
     }
 
-    // One instruction by the instruction engine; the hidden registers become zero.
+    // One instruction by the instruction engine; the hidden registers become zero. The core stays by value: a step takes longer where it is lent.
     pub fn step(mut self, memory: &mut [u16]) -> RunReply
         ensures { run_gave result memory.new ≡ step self memory.old }
     {

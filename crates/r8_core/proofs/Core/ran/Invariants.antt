@@ -3,7 +3,7 @@ use Rattle.r8_core.specs.Spent.{due_in_range}
 use Rattle.r8_core.specs.Progress.{Progress, cycles_on}
 use Rattle.r8_core.specs.Calls.{Reply, ran_reply, run}
 use Rattle.r8_core.specs.declared.Core.{Core}
-use Rattle.r8_core.proofs.Core.run.Given as goal
+use Rattle.r8_core.proofs.Core.ran.Given as goal
 
 -- a run of b cycles under way: the cycles left give the reply of the whole
 pub record Reached (reply : Reply) (b : ℕ) (p : Progress) : Type 0 where
